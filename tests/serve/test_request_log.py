@@ -16,7 +16,8 @@ from tests.serve.requests import ECHO, KEY, acknowledgment, close, compound, cre
 
 EXCLUSIVE, UNLOCK = 2, 4
 Entries = List[Dict[str, Any]]
-NOTHING: Dict[str, Any] = {"name": None, "offset": None, "length": None, "state": None, "waited": False, "breaks": []}
+NOTHING: Dict[str, Any] = {
+    "name": None, "offset": None, "length": None, "state": None, "waited": False, "fault": None, "breaks": []}
 
 
 def entries(path: Path, *commands: str) -> Entries:
@@ -150,11 +151,14 @@ def test_the_lines_of_the_page(start: Start, connect: Connect, tmp_path: Path) -
 
 
 def test_standard_error(program: str, connect: Connect) -> None:
-    """Faults that were wanted are there by their statuses."""
+    """Faults that were wanted are there, of each kind."""
     server = ServerProcess(program, words=["--log", "-"])
     one = connect(server)
-    server.tell("refuse 0xC000035C ECHO")
+    for line in ("refuse 0xC000035C ECHO", "drop ECHO", "delay 0.1 ECHO", "reorder ECHO"):
+        server.tell(line)
     one.ask(ECHO)
+    numbers = [one.send(ECHO) for _ in range(4)]
+    assert {one.receive().identifier for _ in range(3)} == set(numbers[1:])
     server.close()
-    assert [it.split(" ")[3:] for it in server.complaints.splitlines() if "ECHO" in it][0][1:2] == ["ECHO"]
-    assert "0xc000035c" in server.complaints
+    found = [it.partition(" ECHO ")[2].split(" ", 1)[1] for it in server.complaints.splitlines() if " ECHO " in it]
+    assert found == ["0xc000035c fault refuse", "SUCCESS fault drop", "SUCCESS fault delay", "SUCCESS fault reorder", "SUCCESS"]

@@ -82,7 +82,9 @@ class Chain:
         if message.command is Command.CREATE and answer.status >> 30 == 3:
             self._failed = answer.status
         response = self._connection.response(pending, answer, self._session, self._tree)
-        if not self._connection.outgoing.keeps_back(message.name, response):
+        fault = self._connection.outgoing.keep_back(message.name, response, pending.request.fault)
+        pending.request.fault = fault or pending.request.fault
+        if fault is None:
             self._responses.append(response)
             self.held += response.length
         self._connection.outgoing.hold(self)

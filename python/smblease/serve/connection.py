@@ -214,17 +214,18 @@ class Connection(asyncio.Protocol):  # pylint: disable=too-many-instance-attribu
             raise StatusError(Status.INSUFFICIENT_RESOURCES)
         if message.command not in WITHOUT_SESSION:
             request.session.check_signature(message)
-        self._check_refusal(message)
+        self._check_refusal(request)
         handler = self.server.commands.handler(request)
         message.check_size()
         message.check_charge()
         handled = handler(request)
         return handled if isinstance(handled, Answer) else (yield from handled)
 
-    def _check_refusal(self, message: RequestMessage) -> None:
+    def _check_refusal(self, request: Request) -> None:
         """Somebody may want it to be refused."""
-        fault = self.server.faults.take(REFUSES, message.name, self.peer) if self.server.faults else None
+        fault = self.server.faults.take(REFUSES, request.message.name, self.peer) if self.server.faults else None
         if fault:
+            request.fault = fault.action
             raise StatusError(fault.status)
 
     def _answered(self, pending: Pending, answer: Answer) -> None:
@@ -233,11 +234,11 @@ class Connection(asyncio.Protocol):  # pylint: disable=too-many-instance-attribu
         if LOG.isEnabledFor(logging.DEBUG):
             LOG.debug("client %s: %s %d: %s", self.client.number if self.client else "-", message.name, message.identifier,
                       name_of(answer.status))
-        if self.server.log:
-            self.server.log.answered(pending, answer)
         pending.is_answered = True
         if self.is_open:
             pending.chain.answered(pending, answer)
+        if self.server.log:
+            self.server.log.answered(pending, answer)
 
     def response(self, pending: Pending, answer: Answer, session: int, tree: int) -> Response:
         message = pending.request.message
@@ -278,7 +279,7 @@ class Connection(asyncio.Protocol):  # pylint: disable=too-many-instance-attribu
         """A break (2.2.23)."""
         self.outgoing.send_held()
         response = Response(Command.OPLOCK_BREAK, Status.SUCCESS, UNASKED, 0, 0, 0, body)
-        if not self.outgoing.keeps_back(NOTIFICATION, response):
+        if self.outgoing.keep_back(NOTIFICATION, response) is None:
             self.outgoing.send(framed([response]))
 
     def close(self) -> None:

@@ -74,20 +74,20 @@ class Outgoing:
         if unread > MOST_UNREAD or unread > UNREAD and sum(it.unread for it in server.connections) > MOST_UNREAD_OF_ALL:
             server.loop.call_soon(connection.close)
 
-    def keeps_back(self, kind: str, response: Response) -> bool:
-        """Whether a fault is asked for with this message, which then goes by itself, later or never."""
+    def keep_back(self, kind: str, response: Response, met: Action | None = None) -> Action | None:
+        """Where a fault is asked for with this message it goes by itself, later or never; one that `met` a fault meets none."""
         connection, faults = self._connection, self._connection.server.faults
         if not faults:
-            return False
+            return None
         faults.take(WAITS, kind, connection.peer)
-        fault = faults.take(ON_ANSWERS, kind, connection.peer)
+        fault = None if met else faults.take(ON_ANSWERS, kind, connection.peer)
         if fault is None:
-            return False
+            return None
         for client in connection.server.clients.of(connection):
             connection.server.record.strayed(client, f"doesn't get what is sent as it is sent: {fault.action.value}")
         if fault.action is not Action.DROP:
             self._keep(fault, frame_of([response]))
-        return True
+        return fault.action
 
     def _keep(self, fault: Fault, data: bytes) -> None:
         if fault.action is Action.DELAY:

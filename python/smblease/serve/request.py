@@ -6,6 +6,7 @@ from typing import TYPE_CHECKING
 
 from smblease import Status
 from smblease.drive.headers import HEADER, PREVIOUS, Command, Unreadable
+from smblease.serve.faults_on_demand import Action
 from smblease.serve.opens import ManagerClient, Open
 from smblease.serve.packets import RequestMessage
 from smblease.serve.status_error import StatusError
@@ -28,6 +29,8 @@ class Request:
     session_id: int
     tree_id: int
     previous: int | None = None
+    # what somebody wanted to go wrong with it, or with its answer
+    fault: Action | None = None
 
     @property
     def session(self) -> Session:

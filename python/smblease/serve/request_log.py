@@ -51,6 +51,8 @@ class Entry:
     state: str | None = None
     # for the manager, or for anything else after STATUS_PENDING
     waited: bool = False
+    # what was wanted to go wrong
+    fault: str | None = None
     breaks: list[Broken] = field(default_factory=list)
 
     def add(self, decision: Decision) -> None:
@@ -71,6 +73,7 @@ class Entry:
         words += [] if self.name is None else [json.dumps(self.name, ensure_ascii=False)]
         words += [] if self.offset is None else [f"{self.length} at {self.offset}"]
         words += [self.status, *([] if self.state is None else [self.state]), *(["waited"] if self.waited else [])]
+        words += [] if self.fault is None else ["fault", self.fault]
         words += [f"breaks client {it.client} {it.key} {it.was} to {it.becomes}" for it in self.breaks]
         return " ".join(words)
 
@@ -98,7 +101,7 @@ class RequestLog:
         number = pending.number if connection.peer.number is None else connection.peer.number
         entry = Entry(datetime.now(timezone.utc).isoformat(timespec="microseconds"), number, connection.place, message.name,
                       message.identifier, pending.name, offset, length, name_of(answer.status),
-                      waited=pending.async_id is not None)
+                      waited=pending.async_id is not None, fault=request.fault.value if request.fault else None)
         for decision in pending.task.decided if pending.task else ():
             entry.add(decision)
         self._write(json.dumps(asdict(entry), ensure_ascii=False) if self._is_json else entry.text)
