@@ -2,6 +2,7 @@
 from __future__ import annotations
 
 import os
+import struct
 from collections.abc import Callable
 from pathlib import Path
 
@@ -10,7 +11,7 @@ import pytest
 from tests import needs
 from tests.serve.conftest import Start
 from tests.serve.listened import listened
-from tests.serve.requests import create, negotiate, query_info, write
+from tests.serve.requests import close, create, negotiate, query_info, rename, set_info, write
 from tests.serve.seeded import Speaker, converse
 from tests.serve.test_other_clients import USER, ended, smbclient
 
@@ -18,6 +19,7 @@ NAME, PASSWORD = USER.split("%")
 # 2030-01-01 is 1,893,456,000 s after 1970, which is 11,644,473,600 s after 1601. SMB counts 10,000,000ths.
 BEGINNING = (1893456000 + 11644473600) * 10000000
 MILLISECOND = 10000
+SET = BEGINNING - 5
 
 
 def as_guest(client: Speaker) -> None:
@@ -81,6 +83,34 @@ def test_the_clock(start: Start) -> None:
     assert times(client, held) == (made[0], made[0], made[0] + MILLISECOND, made[0] + MILLISECOND)
     for one in (first, client):
         one.close()
+
+
+def test_times_that_a_client_sets(start: Start) -> None:
+    """They are those that it is shown, until the next change."""
+    client = Speaker(start("--seed", "1").place, b"g" * 16)
+    client.set_up("guest")
+    held = client.open(create("file"))
+    made = times(client, held)
+    client.ask(set_info(held, 4, struct.pack("<QQQQLL", 0, 0, SET, 0, 0, 0)))
+    assert times(client, held)[1:] == (made[1], SET, made[3] + MILLISECOND)
+    client.ask(write(held))
+    assert times(client, held)[1:] == (made[1], made[3] + 2 * MILLISECOND, made[3] + 2 * MILLISECOND)
+    client.close()
+
+
+def test_a_folder(start: Start) -> None:
+    """It changes with each name that comes or goes."""
+    client = Speaker(start("--seed", "1").place, b"g" * 16)
+    client.set_up("guest")
+    folder = client.open(create("folder", options=1))
+    made, found = times(client, folder)[2], []
+    below = client.open(create("folder\\file", access=0x13019F))
+    for body in (query_info(below, 4), rename(below, "folder\\other"), set_info(below, 13, b"\1"), close(below)):
+        client.ask(body)
+        found.append(times(client, folder)[2] > made)
+        made = times(client, folder)[2]
+    assert found == [True, True, False, True]
+    client.close()
 
 
 def test_files_that_were_there(start: Start, tmp_path: Path) -> None:
