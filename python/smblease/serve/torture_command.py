@@ -47,8 +47,8 @@ class Row:
 
 
 def parser() -> argparse.ArgumentParser:
-    made = argparse.ArgumentParser(prog="serve/torture", description="Runs tests of smbtorture against the server of serve/run.",
-                                   epilog=EPILOG, formatter_class=argparse.RawDescriptionHelpFormatter)
+    served = name_of("serve/run")
+    made = parser_of("serve/torture", f"Runs tests of smbtorture against the server of {served}.", EPILOG)
     made.add_argument("name", metavar="NAME", nargs="*",
                       help=f"a test, as smb2.lease.request, or a suite, as smb2.session ({', '.join(SUITES)})")
     made.add_argument("--no-guests", action="store_true", help="with its user alone, so that all is signed")
@@ -112,6 +112,9 @@ def _last_status(output: str) -> str:
 
 
 def torture(arguments: argparse.Namespace) -> int:
+    if arguments.smbd:
+        # The proved server is tested without that package.
+        need("impacket", "--smbd")
     tests = chosen_tests(arguments.name or SUITES)
     if arguments.jobs < 1:
         raise Usage("--jobs is at least 1")
