@@ -22,7 +22,7 @@ class Scripted(ManagerHost):
         super().__init__(Rules(), cast(Any, SimpleNamespace(sent=lambda client: None)))
         self._script = script
         self.done: list[str] = []
-        self.answers: dict[str, Status] = {}
+        self.answers: dict[str, int] = {}
 
     def begin(self, *names: str) -> Task:
         """A task that asks for one after the other."""

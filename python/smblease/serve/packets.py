@@ -6,7 +6,6 @@ import hmac
 import struct
 from dataclasses import dataclass, field
 
-from smblease import Status
 from smblease.drive.headers import ASYNC, COMMANDS, FROM_SERVER, HEADER, RELATED, Command, Field, Message, Unreadable
 from smblease.drive.packets import PROTOCOL
 
