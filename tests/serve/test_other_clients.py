@@ -21,7 +21,8 @@ TORTURED = ["smb2.lease.request", "smb2.lease.upgrade", "smb2.lease.upgrade2", "
             "smb2.lease.breaking1", "smb2.lease.breaking6", "smb2.lease.upgrade3", "smb2.durable-open.read-only",
             "smb2.lock.valid-request", "smb2.lock.cancel-logoff", "smb2.lock.stacking"]
 OF_A_USER = ["smb2.durable-open.reopen1a", "smb2.durable-open.reopen1a-lease", "smb2.session.reauth1", "smb2.session.reauth2",
-             "smb2.session.reauth3", "smb2.session.reauth6"]
+             "smb2.session.reauth3", "smb2.session.reauth6", "smb2.session.bind_negative_smb210s",
+             "smb2.session.bind_negative_smb210d"]
 USER = "somebody%secret"
 
 

@@ -11,7 +11,7 @@ from smblease.serve.former_keys import MOST_KEYS
 from smblease.serve.server_process import ServerProcess
 from tests import needs
 from tests.serve.conftest import Connect, Start
-from tests.serve.requests import ECHO, KEY, Body, close, create, leased, read, write
+from tests.serve.requests import ECHO, KEY, Body, close, create, leased, ntlm_tokens, read, session_setup, write
 from tests.serve.signing_in import add_session, exchange, set_up
 from tests.serve.test_other_clients import USER
 
@@ -22,7 +22,7 @@ pytestmark = needs.package("impacket")
 NAME, PASSWORD = USER.split("%")
 LIST: Body = create("", access=0x81, disposition=1, options=1)
 LOGOFF: Body = (Command.LOGOFF, ECHO[1])
-IS_GUEST = 1
+IS_GUEST = BINDING = 1
 
 
 @pytest.fixture
@@ -62,7 +62,6 @@ def test_a_session_keeps_its_key_its_opens_and_its_trees(signing: "WireClient", 
 
 
 def test_other_requests_while_a_session_authenticates_again(signing: "WireClient") -> None:
-    from tests.serve.requests import ntlm_tokens, session_setup  # pylint: disable=import-outside-toplevel
     assert asked(signing, session_setup(ntlm_tokens(NAME)[0])) == (Status.MORE_PROCESSING_REQUIRED, True)
     assert asked(signing, LIST) == (Status.SUCCESS, True)
 
@@ -116,6 +115,21 @@ def test_a_session_that_another_one_ends(signing: "WireClient", connect: Connect
     assert [asked(signing, it) for it in (read(held), LIST, LOGOFF)] == [(Status.USER_SESSION_DELETED, True)] * 3
     signing.session, signing.key = second, other_key
     assert signing.answer_to(signing.send(close(held), signs=True)).status != Status.USER_SESSION_DELETED
+
+
+def test_a_session_that_is_to_be_bound_to_another_connection(signing: "WireClient", connect: Connect,
+                                                            for_users: ServerProcess) -> None:
+    """Dialect 2.1 has no such thing (3.3.5.5). Who knows the session's key is answered so that he can believe it; it goes on."""
+    other = connect(for_users, user=NAME, password=PASSWORD)
+    command, text = session_setup(ntlm_tokens(NAME)[0])
+    other.session, other.key = signing.session, signing.key
+    binding = command, text[:2] + bytes([BINDING]) + text[3:]
+    assert asked(other, binding) == (Status.REQUEST_NOT_ACCEPTED, True)
+    assert [asked(other, it) for it in ((command, text), LIST)] == [(Status.USER_SESSION_DELETED, True)] * 2
+    for body in (binding, LIST):
+        message = other.answer_to(other.send(body, signs=True, damages=True))
+        assert message.flags & 8 == 0 and message.status in (Status.REQUEST_NOT_ACCEPTED, Status.USER_SESSION_DELETED)
+    assert asked(signing, LIST) == (Status.SUCCESS, True)
 
 
 def test_answers_after_a_logoff(signing: "WireClient") -> None:

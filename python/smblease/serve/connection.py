@@ -242,12 +242,20 @@ class Connection(asyncio.Protocol):  # pylint: disable=too-many-instance-attribu
 
     def response(self, pending: Pending, answer: Answer, session: int, tree: int) -> Response:
         message = pending.request.message
-        found = self.sessions.get(session)
-        key = answer.key or (found.key if found else self.former_keys.of(session)) if message.is_signed or answer.key else None
+        key = answer.key or (self._key_of(session, message) if message.is_signed else None)
         granted = self._credits.grant(message.credits_asked) if pending.async_id is None else 0
         flags = FROM_SERVER | (message.flags & 4)
         return Response(message.number(12, 2), answer.status, message.identifier, granted, session, tree, answer.body,
                         answer.data, message.charge, flags, pending.async_id, key)
+
+    def _key_of(self, session: int, message: RequestMessage) -> bytes | None:
+        """That of a session, one that is over too. Of one that is another connection's only who knows its key gets an answer
+        that is signed."""
+        found = self.sessions.get(session)
+        if found:
+            return found.key
+        elsewhere = self.server.sessions.get(session)
+        return elsewhere.key if elsewhere and elsewhere.has_signed(message) else self.former_keys.of(session)
 
     def send_interim_response(self, pending: Pending) -> None:
         """STATUS_PENDING, for a request that waits (3.3.4.2)."""

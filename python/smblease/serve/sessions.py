@@ -50,9 +50,12 @@ class Session:
 
     def check_signature(self, message: RequestMessage) -> None:
         """A session that signs is refused what isn't signed, and one with a key what is signed wrongly (3.3.5.2.4)."""
-        is_wrong = message.is_signed and self.key and not hmac.compare_digest(signed(message.data, self.key), message.data)
+        is_wrong = message.is_signed and self.key and not self.has_signed(message)
         if is_wrong or self.signs and not message.is_signed:
             raise StatusError(Status.ACCESS_DENIED)
+
+    def has_signed(self, message: RequestMessage) -> bool:
+        return bool(message.is_signed and self.key and hmac.compare_digest(signed(message.data, self.key), message.data))
 
 
 def negotiated(server: Server, dialect: int) -> Answer:
