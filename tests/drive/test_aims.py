@@ -8,17 +8,13 @@ from typing import Any
 import pytest
 
 from smblease import Server
+from smblease.drive.aims import Aim, aimed_events
+from smblease.drive.drawing import drawn
+from smblease.drive.expectation import Facts
+from smblease.drive.random_schedules import aimed_setup
 from smblease.program import judge
 from smblease.world import ClientObjects, MachineWorld
-from tests import needs
 from tests.drive.faulty_servers import BreaksNothing
-
-pytest.importorskip("impacket", reason=f"there is no package impacket; {needs.INSTALLS}")
-# pylint: disable=wrong-import-position
-from smblease.drive.aims import Aim, aimed_events  # noqa: E402
-from smblease.drive.drawing import drawn  # noqa: E402
-from smblease.drive.expectation import Facts  # noqa: E402
-from smblease.drive.random_schedules import aimed_setup  # noqa: E402
 
 SEEDS = range(12)
 

@@ -15,6 +15,8 @@ from pathlib import Path
 
 import pytest
 
+from smblease.drive.runner import Runner
+from smblease.drive.servers import PrivateServer
 from smblease.program import judge
 from smblease.schedules import Schedule
 from tests import needs
@@ -23,9 +25,6 @@ from tests.drive.judging import SAFE, UNSAFE
 from tests.paths import EXAMPLE, TOP, name_of
 
 pytest.importorskip("impacket", reason=f"there is no package impacket; {needs.INSTALLS}")
-# pylint: disable=wrong-import-position
-from smblease.drive.runner import Runner  # noqa: E402
-from smblease.drive.servers import PrivateServer  # noqa: E402
 
 pytestmark = [*PRIVATE_SMBD, needs.program("tshark"), needs.program("dumpcap")]
 TORTURES = ("request", "nobreakself", "upgrade3")

@@ -15,23 +15,22 @@ from pathlib import Path
 
 import pytest
 
+from smblease.drive import servers
+from smblease.drive.explanations import Run, likeness_of
+from smblease.drive.exploration import Explorer
+from smblease.drive.kept_servers import KeptServers
+from smblease.drive.model import Departure
+from smblease.drive.runner import Filter, Outcome, Runner
+from smblease.drive.servers import PrivateServer
 from smblease.program import replay
 from smblease.schedules import Schedule
 from tests import needs
 from tests.drive import broken_clients
 from tests.drive.commands import DEPARTURES, FOUND, PRIVATE_SMBD, facts_in, ran, tried
+from tests.drive.named import named_smbd
 from tests.paths import SCHEDULES, TESTS, TOP, name_of
 
 pytest.importorskip("impacket", reason=f"there is no package impacket; {needs.INSTALLS}")
-from smblease.drive import servers  # noqa: E402
-from smblease.drive.explanations import Run, likeness_of  # noqa: E402
-from smblease.drive.exploration import Explorer  # noqa: E402
-from smblease.drive.kept_servers import KeptServers  # noqa: E402
-from smblease.drive.model import Departure  # noqa: E402
-from smblease.drive.runner import Filter, Outcome, Runner  # noqa: E402
-from smblease.drive.servers import PrivateServer  # noqa: E402
-# pylint: disable=wrong-import-position
-from tests.drive.named import named_smbd  # noqa: E402
 
 pytestmark = PRIVATE_SMBD
 # Schedules in which smbd isn't the server of the profile, and the rule that the record breaks, if any.

@@ -11,18 +11,16 @@ from pathlib import Path
 
 import pytest
 
-from tests import needs
-from tests.drive.commands import ran, with_private_smbd
-from tests.paths import TESTS, TOP, built_program
-
-pytest.importorskip("impacket", reason=f"there is no package impacket; {needs.INSTALLS}")
+pytest.importorskip("impacket", reason="there is no package impacket; tools/setup installs it")
+# pylint: disable=wrong-import-position
 from smblease.drive import connections  # noqa: E402
 from smblease.drive.connections import Connection  # noqa: E402
 from smblease.drive.faults import DriveFault, Usage  # noqa: E402
 from smblease.drive.login import Login, login_of  # noqa: E402
 from smblease.drive.place import Place  # noqa: E402
-# pylint: disable=wrong-import-position
+from tests.drive.commands import ran, with_private_smbd  # noqa: E402
 from tests.drive.named import named_proved, named_smbd  # noqa: E402
+from tests.paths import TESTS, TOP, built_program  # noqa: E402
 
 USERS = {
     "games%secret": Login("games", "secret"), "OFFICE\\games%secret": Login("games", "secret", "OFFICE"),

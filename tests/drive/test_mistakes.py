@@ -7,17 +7,16 @@ from pathlib import Path
 
 import pytest
 
+from smblease.drive.exploration import Explorer
+from smblease.drive.explored import Row
+from smblease.drive.runner import Runner
+from smblease.drive.servers import NamedServer
 from smblease.values import Rules
 from tests import needs
+from tests.drive.named import named_small, place_of
+from tests.drive.small_server import Mistake
 
 pytest.importorskip("impacket", reason=f"there is no package impacket; {needs.INSTALLS}")
-from smblease.drive.exploration import Explorer  # noqa: E402
-from smblease.drive.explored import Row  # noqa: E402
-from smblease.drive.runner import Runner  # noqa: E402
-from smblease.drive.servers import NamedServer  # noqa: E402
-# pylint: disable=wrong-import-position
-from tests.drive.named import named_small, place_of  # noqa: E402
-from tests.drive.small_server import Mistake  # noqa: E402
 
 FIRST, SEED = 50, 1
 BREAK_TIMER, BREAK_TIME = 6.0, 6.5

@@ -7,18 +7,17 @@ from pathlib import Path
 
 import pytest
 
+from smblease.drive.drawing import drawn
+from smblease.drive.random_schedules import Chooser, setup_of
+from smblease.drive.runner import Runner
+from smblease.drive.servers import NamedServer
 from smblease.schedules import EventKind
 from tests import needs
 from tests.drive.commands import ran, with_private_smbd
+from tests.drive.named import named_proved, named_smbd, place_of
 from tests.paths import TESTS
 
 pytest.importorskip("impacket", reason=f"there is no package impacket; {needs.INSTALLS}")
-from smblease.drive.drawing import drawn  # noqa: E402
-from smblease.drive.random_schedules import Chooser, setup_of  # noqa: E402
-from smblease.drive.runner import Runner  # noqa: E402
-from smblease.drive.servers import NamedServer  # noqa: E402
-# pylint: disable=wrong-import-position
-from tests.drive.named import named_proved, named_smbd, place_of  # noqa: E402
 
 # Two clients have breaks to acknowledge when the timer of one is waited for; then the third caches writes.
 TWO_BREAKS = """file 616263

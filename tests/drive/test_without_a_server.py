@@ -11,29 +11,27 @@ from pathlib import Path
 
 import pytest
 
-from smblease.outs import Changed, Opened
-from smblease.program import Verdict, judge, replay
-from smblease.replies import Break, Closed, Created
-from smblease.schedules import Event, EventKind, Schedule
-from smblease.values import Status
-
 pytest.importorskip("impacket", reason="there is no package impacket; tools/setup installs it")
 # pylint: disable=wrong-import-position
 from impacket.smb3 import SessionError  # noqa: E402
-
 from smblease.drive import connections, explore_command, run_command  # noqa: E402
 from smblease.drive.clock import PAIR, PAIRS, Clocks  # noqa: E402
-from smblease.drive.connections import FileId  # noqa: E402
 from smblease.drive.explanations import Run, facts_of  # noqa: E402
 from smblease.drive.explored import Head, Row, Table  # noqa: E402
 from smblease.drive.faults import DriveFault  # noqa: E402
 from smblease.drive.peers import DrivenPeer  # noqa: E402
 from smblease.drive.place import Place  # noqa: E402
 from smblease.drive.random_schedules import Chooser, blind_schedule  # noqa: E402
+from smblease.drive.received import FileId  # noqa: E402
 from smblease.drive.records import Arrival, Order, Record, applied  # noqa: E402
 from smblease.drive.runner import Outcome, Runner  # noqa: E402
 from smblease.drive.shrinking import shrunk  # noqa: E402
 from smblease.drive.tried import Tried  # noqa: E402
+from smblease.outs import Changed, Opened  # noqa: E402
+from smblease.program import Verdict, judge, replay  # noqa: E402
+from smblease.replies import Break, Closed, Created  # noqa: E402
+from smblease.schedules import Event, EventKind, Schedule  # noqa: E402
+from smblease.values import Status  # noqa: E402
 from tests.drive.commands import FOUND  # noqa: E402
 from tests.paths import SCHEDULES, TESTS, TOP, name_of  # noqa: E402
 
