@@ -7,6 +7,7 @@ from typing import Protocol
 
 from smblease import CreateAnswer, Status
 from smblease.drive.headers import ASYNC, FROM_SERVER, HEADER, UNASKED, Command, Unreadable
+from smblease.serve.chance import Chance
 from smblease.serve.ntlm import Authentication
 from smblease.serve.packets import ERROR_BODY, LONGEST_TRANSFER, Frames, RequestMessage, Response, framed, split_compound
 from smblease.serve.password_brake import PasswordBrake
@@ -48,7 +49,7 @@ class SmallConnection(asyncio.Protocol):
         self.guid = b""
         self._host = host
         self._frames = Frames()
-        self._authentication = Authentication(None, True, PasswordBrake(), "")
+        self._authentication = Authentication(None, True, PasswordBrake(), "", Chance())
         self._transport = asyncio.Transport()
         self._is_joined = False
 
