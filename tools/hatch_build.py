@@ -4,6 +4,7 @@ from __future__ import annotations
 import re
 import struct
 import subprocess
+import sys
 import sysconfig
 from pathlib import Path
 from typing import Any, Sequence
@@ -33,8 +34,11 @@ class WheelHook(BuildHookInterface[Any]):
         if self.target_name != "wheel" or version == "editable":
             return
         top = Path(self.root)
-        found = subprocess.run([top / "tools" / "current"], stdout=subprocess.PIPE, check=True, text=True).stdout.strip()
-        library, program = (Path(found) / name for name in (LIBRARY, PROGRAM))
+        found = subprocess.run([top / "tools" / "current"], stdout=subprocess.PIPE, check=False, text=True)
+        if found.returncode:
+            # (it has said why)
+            sys.exit(1)
+        library, program = (Path(found.stdout.strip()) / name for name in (LIBRARY, PROGRAM))
         build_data["pure_python"] = False
         build_data["tag"] = f"py3-none-{platform_of([library, program])}"
         scripts = f"{self.build_config.builder.project_id}.data/scripts"

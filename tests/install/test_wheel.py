@@ -3,6 +3,7 @@ from __future__ import annotations
 
 import importlib.util
 import re
+import shutil
 import struct
 import subprocess
 import sys
@@ -15,7 +16,7 @@ from types import ModuleType
 import pytest
 
 from tests import needs
-from tests.install.making import MARKS, made_wheel
+from tests.install.making import MARKS, made_wheel, ran
 from tests.paths import TOP, built_program
 from tests.program.test_version import VERSION
 
@@ -87,8 +88,21 @@ def test_the_sdist_has_what_dist_is_found_by(sdist: Path) -> None:
     assert not [it for it in names if "/out/" in it or "/.git/" in it]
 
 
+@PROVED
 def test_a_wheel_of_the_sdist_is_that_of_the_clone(wheel: Path, sdist: Path, tmp_path: Path) -> None:
     assert contents(made_wheel(sdist, tmp_path)) == contents(wheel)
+
+
+@PROVED
+def test_why_there_is_no_wheel(sdist: Path, tmp_path: Path) -> None:
+    """Without dist/ and cargo, which isn't on the path here."""
+    with tarfile.open(sdist) as opened:
+        opened.extractall(tmp_path)
+    source = tmp_path / f"smblease-{VERSION}"
+    shutil.rmtree(source / "dist")
+    done = ran([sys.executable, "-m", "pip", "wheel", "--no-build-isolation", "--no-deps", source], tmp_path)
+    assert done.returncode == 1 and "neither cargo, which builds it from rust/" in done.stderr
+    assert "Traceback" not in done.stderr
 
 
 def module_of(name: str) -> ModuleType:
