@@ -31,7 +31,8 @@ in a comment line.
 
 Exit status: 0 each file and each client is judged, and no file is unsafe; 1 the capture can't be read, or there is no SMB2 in
 it; 2 the command line is refused; 3 a file is unsafe: the first rule is broken in every order that fits the capture, by what
-clients cached or by what the server granted; 4 of no file anything is decided; 5 no file is unsafe, and something isn't judged."""
+clients cached or by what the server granted; 4 of no file anything is decided; 5 no file is unsafe, and something isn't
+judged."""
 
 
 def key_given(text: str) -> SessionKey:
