@@ -1,5 +1,6 @@
-"""Captures in which a server that keeps the rules is made to break them: one grant beside another client's lease is raised to RWH,
-where what follows shows that the other lease was there still. Read apart from the judge, from the fixed parts of messages alone."""
+"""Captures in which a server that keeps the rules is made to break them: one grant beside another client's lease is raised to
+RWH, where what follows shows that the other lease was there still. Read apart from the judge, from the fixed parts of messages
+alone."""
 from __future__ import annotations
 
 import struct

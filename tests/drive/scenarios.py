@@ -10,7 +10,8 @@ from tests.drive.hand_made import H, Line, Made, R, W
 
 
 class Expected(NamedTuple):
-    """Whether the capture is unsafe with `--at client` and with `--at server`, and whether it is at the server by what that granted."""
+    """Whether the capture is unsafe with `--at client` and with `--at server`, and whether it is so at the server by what that
+    granted."""
 
     at_client: bool
     at_server: bool

@@ -52,8 +52,10 @@ class Found(NamedTuple):
 
 
 FOUND: dict[type[FaultyServer], dict[str, Found]] = {
-    GrantsWhatIsWanted: {CLIENT: Found(29, 4), SERVER: Found(19, 14)}, BreaksNothing: {CLIENT: Found(28, 12), SERVER: Found(8, 31)},
-    WaitsForNobody: {CLIENT: Found(17, 17), SERVER: Found(0, 34)}, LeasesOutliveOpens: {CLIENT: Found(1, 1), SERVER: Found(1, 1)},
+    GrantsWhatIsWanted: {CLIENT: Found(29, 4), SERVER: Found(19, 14)},
+    BreaksNothing: {CLIENT: Found(28, 12), SERVER: Found(8, 31)},
+    WaitsForNobody: {CLIENT: Found(17, 17), SERVER: Found(0, 34)},
+    LeasesOutliveOpens: {CLIENT: Found(1, 1), SERVER: Found(1, 1)},
 }
 
 
@@ -101,8 +103,8 @@ def test_much_is_judged(program: str) -> None:
 
 
 def test_faults_are_found(faulty: Faulty) -> None:
-    found = {side: Found(sum(side in sides.believed for _, sides in faulty.runs), sum(side in sides.granted for _, sides in faulty.runs))
-             for side in SIDES}
+    charges = [it for _, it in faulty.runs]
+    found = {side: Found(sum(side in it.believed for it in charges), sum(side in it.granted for it in charges)) for side in SIDES}
     assert found == FOUND[faulty.kind]
 
 

@@ -9,15 +9,16 @@ import pytest
 from smblease.lines import read_note, read_number, read_out, read_reply, read_request
 
 REFUSED: dict[str, Callable[[str], object]] = {
-    "read -1": read_request, "read +1": read_request, "read 1_000": read_request, "read 01": read_request, "read  1": read_request,
-    "read ": read_request, "read": read_request, "read 1 ": read_request, "read 1\n": read_request, "read \u0661": read_request,
-    "read 0x1": read_request, "read 1.0": read_request, "read 1 2": read_request, "write 7 1 0 5": read_request,
-    "write 7 1 0 5 8": read_request, "write 7 1 0 5\t8": read_request, "write 7 1 0 0x58": read_request, "write 7 1 0 ": read_request,
-    "write 7 1 -0 58": read_request, "create 1 x rw -": read_request, "Read 1": read_request, "": read_request,
-    "createfailed 1 +0000001": read_reply, "createfailed 1 0x000001": read_reply, "createfailed 1 1_000000": read_reply,
-    "createfailed 1 c000004": read_reply, "createfailed 1 STATUS_NONE": read_reply, "readdone 7 g0": read_reply,
-    "believes 1_0 1 RH": read_note, "believes -1 1 RH": read_note, "believes 1 1 HR": read_note, "believes": read_note,
-    "sent 01 closed 7": read_out, "sent 1 closed": read_out, "sent": read_out,
+    "read -1": read_request, "read +1": read_request, "read 1_000": read_request, "read 01": read_request,
+    "read  1": read_request, "read ": read_request, "read": read_request, "read 1 ": read_request, "read 1\n": read_request,
+    "read \u0661": read_request, "read 0x1": read_request, "read 1.0": read_request, "read 1 2": read_request,
+    "write 7 1 0 5": read_request, "write 7 1 0 5 8": read_request, "write 7 1 0 5\t8": read_request,
+    "write 7 1 0 0x58": read_request, "write 7 1 0 ": read_request, "write 7 1 -0 58": read_request,
+    "create 1 x rw -": read_request, "Read 1": read_request, "": read_request, "createfailed 1 +0000001": read_reply,
+    "createfailed 1 0x000001": read_reply, "createfailed 1 1_000000": read_reply, "createfailed 1 c000004": read_reply,
+    "createfailed 1 STATUS_NONE": read_reply, "readdone 7 g0": read_reply, "believes 1_0 1 RH": read_note,
+    "believes -1 1 RH": read_note, "believes 1 1 HR": read_note, "believes": read_note, "sent 01 closed 7": read_out,
+    "sent 1 closed": read_out, "sent": read_out,
 }
 
 
