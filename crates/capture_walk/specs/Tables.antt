@@ -3,7 +3,7 @@
 -- took. A request reaches the server after the client sent it, and the server sends the answer before the capture has that: so
 -- what it does happens between the two, and the bounds are wide enough for answers on several connections that overtake one
 -- another. How long a lease is sure to be there is as for what clients believe. Events are in the order of the capture.
-use Rattle.std.specs.Prelude.{ℕ, ◌==◌, nat_le, Bool, true, false, ◌&&◌, if◌then◌else◌, List, [], ◌∷◌, ◌++◌, Option, Some, None}
+use Rattle.std.specs.Prelude.{ℕ, ◌==◌, nat_le, true, false, ◌&&◌, if◌then◌else◌, List, [], ◌∷◌, ◌++◌, Option, Some, None}
 use Rattle.std.specs.Prelude.{filter}
 use Rattle.std.specs.List.{flat_map}
 use Rattle.capture_judge.specs.declared.values.Level.{Level}
@@ -36,10 +36,11 @@ answered_at connection id (_ ∷ later) = answered_at connection id later
 abbrev pub granted_by : Grant → ℕ → Option ℕ
 granted_by one broken = if nat_le broken one.asked then Some one.sent.position else None
 
--- The open is there with the response, and so the lease is sure up to the last request that shows that.
+-- The lease is sure up to the last request that shows it. Where none does, the server may have lost it before it sent the response:
+-- the client may have guessed the FileId and closed the open, or a break may have timed out that is still on its way.
 abbrev pub held_by_grant : Grant → ℕ → Option Asked → List Change
 held_by_grant one broken shown =
-    change one.level one.asked (granted_by one broken) ∷ doubt true (kept_until one.sent.position shown)
+    change one.level one.asked (granted_by one broken) ∷ doubt true (kept_until one.asked shown)
 
 -- ---- breaks
 
@@ -58,7 +59,7 @@ held_by_break one (Some given) shown later =
     changed_by given.level given.last (answered_at given.connection given.id later) ++ doubt true (kept_until given.last shown)
 held_by_break one None shown later =
     if one.acknowledged then []
-    else change one.level 0 (Some one.sent.position) ∷ doubt true (kept_until one.sent.position shown)
+    else change one.level 0 (Some one.sent.position) ∷ doubt true (kept_until 0 shown)
 
 -- ---- ends
 
@@ -78,7 +79,7 @@ ended_with (Some id) end later = closed_by end.last (answered_at end.connection 
 
 abbrev pub held_by : Lease → ℕ → Event → List Event → List Change
 held_by lease broken (event.Granted one) later =
-    if is_same one.lease lease then held_by_grant one broken (last_shown one.lease one.sent true None later) else []
+    if is_same one.lease lease then held_by_grant one broken (last_shown one.lease one.sent false None later) else []
 held_by lease broken (event.Broken one) later =
     if is_same one.lease lease
     then held_by_break one (acknowledgment one.lease later) (last_shown one.lease one.sent false None later) later

@@ -192,18 +192,16 @@ fn shown_before(broken: &Break, found: Option<Asked>) -> Option<Asked>
     }
 }
 
-/// The last request that shows a lease after a message of the server, where the open that was made with the message is known to
-/// be there or not.
+/// The last request that shows a lease after a message of the server.
 pub(crate) fn last_shown(
     lease: Lease,
     sent: Sent,
-    is_there: bool,
     later: &[Event],
     since: Option<u64>,
 ) -> Option<Asked>
-    ensures { result ≡ last_shown lease sent is_there None (filter (is_known since) later.now) }
+    ensures { result ≡ last_shown lease sent false None (filter (is_known since) later.now) }
 {
-    let mut is_live = is_there;
+    let mut is_live = false;
     let mut found: Option<Asked> = None;
     for (index, event) in later.iter().enumerate() {
         match event {
@@ -264,7 +262,7 @@ fn push_granted(
         (taken grant.now.sent (filter (is_known since) later.now))
         (last_shown grant.now.lease grant.now.sent false None (filter (is_known since) later.now))) }
 {
-    let shown = last_shown(grant.lease, grant.sent, false, later, since);
+    let shown = last_shown(grant.lease, grant.sent, later, since);
     changes.push(Change {
         level: grant.level,
         first: grant.sent.position,
@@ -305,7 +303,7 @@ fn push_broken(
                 first,
                 last: Some(given.last),
             })?;
-            let shown = last_shown(broken.lease, broken.sent, false, later, since);
+            let shown = last_shown(broken.lease, broken.sent, later, since);
             push_doubt(changes, true, kept_until(given.last, shown))
         }
         None if broken.acknowledged => Ok(()),

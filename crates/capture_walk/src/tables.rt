@@ -54,7 +54,7 @@ fn push_granted(
         first: grant.asked,
         last: granted_by(grant, broken),
     })?;
-    push_doubt(changes, true, kept_until(grant.sent.position, shown))
+    push_doubt(changes, true, kept_until(grant.asked, shown))
 }
 
 // What a request changes, by its answer.
@@ -105,7 +105,7 @@ fn push_broken(
         (last_shown broken.now.lease broken.now.sent false None (filter (is_known since) later.now))
         (filter (is_known since) later.now)) }
 {
-    let shown = last_shown(broken.lease, broken.sent, false, later, since);
+    let shown = last_shown(broken.lease, broken.sent, later, since);
     match acknowledgment(broken.lease, later, since) {
         Some(given) => {
             push_acknowledged(changes, &given, later, since)?;
@@ -118,7 +118,7 @@ fn push_broken(
                 first: 0,
                 last: Some(broken.sent.position),
             })?;
-            push_doubt(changes, true, kept_until(broken.sent.position, shown))
+            push_doubt(changes, true, kept_until(0, shown))
         }
     }
 }
@@ -179,7 +179,7 @@ fn push_held(
 {
     match event {
         Event::Granted(grant) if grant.lease.is(lease) => {
-            let shown = last_shown(grant.lease, grant.sent, true, later, since);
+            let shown = last_shown(grant.lease, grant.sent, later, since);
             push_granted(changes, grant, broken, shown)
         }
         Event::Broken(one) if one.lease.is(lease) => push_broken(changes, one, later, since),

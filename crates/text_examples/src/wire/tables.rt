@@ -1,6 +1,6 @@
 // What the server holds for two clients, by the notes of its messages: where it grants the second one a lease beside the first
 // one's, and what may have taken that away before. Whatever they took, it is charged where they clash.
-use crate::wire::walks::{answer, ask, break_to, grant, keeps, key, open_name, seen};
+use crate::wire::walks::{answer, ask, break_to, grant, keeps, key, open_name, seen, use_open};
 use capture_judge::{Charge, Level, Placing, judge_placing};
 use capture_walk::{BreakNote, Note, Walk, chains_on, tables_on};
 use lease_state::Memory;
@@ -16,23 +16,17 @@ fn beside(alloc: Global, level: Level) -> Result<Walk, Memory> {
     Ok(walk)
 }
 
-// The first client's connection is there: the server answers an ECHO.
-fn is_heard(walk: &mut Walk, number: u64) -> Result<(), Memory> {
-    walk.take(&seen(number, 1, Note::Asked(number)))?;
-    answer(walk, number.saturating_add(1), 1, number)
-}
-
 fn judged(alloc: Global, walk: &Walk) -> Result<Placing, Memory> {
     judge_placing(alloc, &tables_on(alloc, 5, walk.events())?)
 }
 
-// Neither client is shown to have taken its lease, but the server granted both by 24.
+// The second client isn't shown to have taken its lease, but the server granted that by 24, and the first one's is there still.
 #[test]
 fn a_grant_beside_a_lease_is_the_servers(rt: HostRuntime) -> Result<(), Fail> {
     let alloc = rt.alloc();
     let mut walk = beside(alloc, Level::Writes)?;
     grant(&mut walk, 12, 2, Level::Something)?;
-    is_heard(&mut walk, 13)?;
+    use_open(&mut walk, 13, 1)?;
     assert!(&rt;
         matches!(
             judged(alloc, &walk)?,
@@ -44,9 +38,9 @@ fn a_grant_beside_a_lease_is_the_servers(rt: HostRuntime) -> Result<(), Fail> {
     Ok(())
 }
 
-// The first client may be gone, without a word, by the time of the second one's grant.
+// The server may have lost what the first client doesn't use any more by the time of the second one's grant.
 #[test]
-fn a_client_that_is_not_heard_any_more_may_be_gone(rt: HostRuntime) -> Result<(), Fail> {
+fn a_lease_that_is_not_used_any_more_may_be_lost(rt: HostRuntime) -> Result<(), Fail> {
     let alloc = rt.alloc();
     let mut walk = beside(alloc, Level::Writes)?;
     grant(&mut walk, 12, 2, Level::Something)?;
@@ -63,7 +57,7 @@ fn an_acknowledgment_makes_room(rt: HostRuntime) -> Result<(), Fail> {
     walk.take(&seen(13, 1, keeps(13, Level::Something)))?;
     grant(&mut walk, 14, 2, Level::Something)?;
     answer(&mut walk, 15, 1, 13)?;
-    is_heard(&mut walk, 16)?;
+    use_open(&mut walk, 16, 1)?;
     assert!(&rt; matches!(judged(alloc, &walk)?, Placing::Clean(_)));
     Ok(())
 }
@@ -92,7 +86,7 @@ fn a_break_that_is_not_acknowledged_may_time_out(rt: HostRuntime) -> Result<(), 
     let mut walk = beside(alloc, Level::Writes)?;
     walk.take(&seen(12, 1, break_to(Level::Something, 0)))?;
     grant(&mut walk, 13, 2, Level::Writes)?;
-    is_heard(&mut walk, 14)?;
+    use_open(&mut walk, 14, 1)?;
     assert!(&rt; matches!(judged(alloc, &walk)?, Placing::Clean(_)));
     Ok(())
 }
@@ -110,7 +104,7 @@ fn a_break_of_reads_alone_makes_room(rt: HostRuntime) -> Result<(), Fail> {
     };
     walk.take(&seen(12, 1, Note::Break(taken_away)))?;
     grant(&mut walk, 13, 2, Level::Writes)?;
-    is_heard(&mut walk, 14)?;
+    use_open(&mut walk, 14, 1)?;
     assert!(&rt; matches!(judged(alloc, &walk)?, Placing::Clean(_)));
     Ok(())
 }
@@ -120,7 +114,7 @@ fn a_lease_for_reads_stays_without_a_break(rt: HostRuntime) -> Result<(), Fail> 
     let alloc = rt.alloc();
     let mut walk = beside(alloc, Level::Something)?;
     grant(&mut walk, 12, 2, Level::Writes)?;
-    is_heard(&mut walk, 13)?;
+    use_open(&mut walk, 13, 1)?;
     assert!(&rt;
         matches!(
             judged(alloc, &walk)?,
@@ -163,7 +157,7 @@ fn a_grant_before_the_close_is_too_early(rt: HostRuntime) -> Result<(), Fail> {
 fn the_end_of_a_connection_makes_room(rt: HostRuntime) -> Result<(), Fail> {
     let alloc = rt.alloc();
     let mut walk = beside(alloc, Level::Writes)?;
-    is_heard(&mut walk, 12)?;
+    use_open(&mut walk, 12, 1)?;
     walk.take(&seen(14, 1, Note::End))?;
     grant(&mut walk, 15, 2, Level::Writes)?;
     assert!(&rt; matches!(judged(alloc, &walk)?, Placing::Clean(_)));

@@ -1,4 +1,4 @@
-use Rattle.std.proofs.Common.{◌≡◌, drop, filter, None}
+use Rattle.std.proofs.Common.{◌≡◌, drop, filter, false, None}
 use Rattle.capture_walk.specs.Chains.{last_shown, is_known}
 use Rattle.capture_walk.proofs.chains.last_shown.Given as goal
 
@@ -6,4 +6,4 @@ use Rattle.capture_walk.proofs.chains.last_shown.Given as goal
 abbrev pub invariant-loop-index : goal.invariant-loop-index
 invariant-loop-index l =
     last_shown l.lease l.sent l.is_live l.found (filter (is_known l.since) (drop l.index l.later))
-    ≡ last_shown l.lease l.sent l.is_there None (filter (is_known l.since) l.later)
+    ≡ last_shown l.lease l.sent false None (filter (is_known l.since) l.later)

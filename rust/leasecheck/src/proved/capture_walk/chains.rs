@@ -134,10 +134,9 @@ fn shown_before(broken: &Break, found: Option<Asked>) -> Option<Asked> {
     if one.connection == broken.sent.connection { Some(one) } else { None }
 }
 
-/// The last request that shows a lease after a message of the server, where the open that was made with the message is known to
-/// be there or not.
-pub(crate) fn last_shown(lease: Lease, sent: Sent, is_there: bool, later: &[Event], since: Option<u64>) -> Option<Asked> {
-    let mut is_live = is_there;
+/// The last request that shows a lease after a message of the server.
+pub(crate) fn last_shown(lease: Lease, sent: Sent, later: &[Event], since: Option<u64>) -> Option<Asked> {
+    let mut is_live = false;
     let mut found: Option<Asked> = None;
     for (index, event) in later.iter().enumerate() {
         match event {
@@ -173,7 +172,7 @@ fn sure_by(last: Option<u64>, shown: Option<Asked>) -> Option<u64> {
 
 // What a grant gives, where these events come after it.
 fn push_granted(changes: &mut Vec<Change>, grant: &Grant, later: &[Event], since: Option<u64>) -> Result<(), Memory> {
-    let shown = last_shown(grant.lease, grant.sent, false, later, since);
+    let shown = last_shown(grant.lease, grant.sent, later, since);
     changes.push(Change {
         level: grant.level,
         first: grant.sent.position,
@@ -199,7 +198,7 @@ fn push_broken(changes: &mut Vec<Change>, broken: &Break, later: &[Event], since
     match acknowledgment(broken.lease, later, since) {
         Some(given) => {
             changes.push(Change { level: given.level, first, last: Some(given.last) })?;
-            let shown = last_shown(broken.lease, broken.sent, false, later, since);
+            let shown = last_shown(broken.lease, broken.sent, later, since);
             push_doubt(changes, true, kept_until(given.last, shown))
         }
         None if broken.acknowledged => Ok(()),

@@ -31,7 +31,7 @@ fn granted_by(grant: &Grant, broken: u64) -> Option<u64> {
 // What a grant gives, where this request shows the lease last.
 fn push_granted(changes: &mut Vec<Change>, grant: &Grant, broken: u64, shown: Option<Asked>) -> Result<(), Memory> {
     changes.push(Change { level: grant.level, first: grant.asked, last: granted_by(grant, broken) })?;
-    push_doubt(changes, true, kept_until(grant.sent.position, shown))
+    push_doubt(changes, true, kept_until(grant.asked, shown))
 }
 
 // What a request changes, by its answer.
@@ -53,7 +53,7 @@ fn push_acknowledged(changes: &mut Vec<Change>, given: &Acknowledged, later: &[E
 
 // What a break leaves, where these events come after it.
 fn push_broken(changes: &mut Vec<Change>, broken: &Break, later: &[Event], since: Option<u64>) -> Result<(), Memory> {
-    let shown = last_shown(broken.lease, broken.sent, false, later, since);
+    let shown = last_shown(broken.lease, broken.sent, later, since);
     match acknowledgment(broken.lease, later, since) {
         Some(given) => {
             push_acknowledged(changes, &given, later, since)?;
@@ -62,7 +62,7 @@ fn push_broken(changes: &mut Vec<Change>, broken: &Break, later: &[Event], since
         None if broken.acknowledged => Ok(()),
         None => {
             changes.push(Change { level: broken.level, first: 0, last: Some(broken.sent.position) })?;
-            push_doubt(changes, true, kept_until(broken.sent.position, shown))
+            push_doubt(changes, true, kept_until(0, shown))
         }
     }
 }
@@ -98,7 +98,7 @@ fn push_held(
 ) -> Result<(), Memory> {
     match event {
         Event::Granted(grant) if grant.lease.is(lease) => {
-            let shown = last_shown(grant.lease, grant.sent, true, later, since);
+            let shown = last_shown(grant.lease, grant.sent, later, since);
             push_granted(changes, grant, broken, shown)
         }
         Event::Broken(one) if one.lease.is(lease) => push_broken(changes, one, later, since),
