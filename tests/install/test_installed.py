@@ -38,8 +38,8 @@ def test_library(programs: Path, tmp_path: Path) -> None:
 
 
 def test_fixture(programs: Path, tmp_path: Path) -> None:
-    """The module of the fixture for pytest comes with it."""
-    program = "import smblease.testing; print(smblease.testing.__file__)"
+    """The module of the fixture for pytest, which isn't there, comes with it."""
+    program = "import importlib.util as it; print(it.find_spec('smblease.testing').origin)"
     assert printed([programs / "python", "-c", program], tmp_path).startswith(str(programs.parent))
 
 
