@@ -91,6 +91,19 @@ def closes_that_cross(made: Made, had_grant: bool) -> Expected:
     return Expected(True, True, is_granted=not had_grant)
 
 
+def three_in_a_row(made: Made, closes: bool) -> Expected:
+    """RWH is granted to three clients without a break. What they close shows that the server held it still; where nothing
+    follows, each client may have been gone by the next grant, and nobody is charged."""
+    lines = [Line(made, 50001 + number) for number in range(3)]
+    for number, line in enumerate(lines, 1):
+        line.begins(number)
+        line.opens(3, number, 0xA0 + number, R | W | H)
+    for number, line in enumerate(lines if closes else [], 1):
+        line.asks(hand_made.close(6, hand_made.file_id(number)))
+        line.answers(hand_made.closed(6))
+    return Expected(closes, closes, is_granted=closes)
+
+
 def close_in_a_compound(made: Made) -> Expected:
     line, other = Line(made, 50001), Line(made, 50002)
     line.begins(1)
@@ -333,6 +346,8 @@ def used_before_the_server_ended_it(made: Made) -> Expected:
 SCENARIOS: dict[str, Callable[[Made], Expected]] = {
     "two caches": two_caches, "a break that is acknowledged": break_acknowledged,
     "a break that isn't acknowledged": break_not_acknowledged,
+    **{f"three grants in a row, {'closed' if closes else 'and nothing after'}": partial(three_in_a_row, closes=closes)
+       for closes in (True, False)},
     "a close that crosses a grant": partial(closes_that_cross, had_grant=False),
     "a close that doesn't cross": partial(closes_that_cross, had_grant=True), "a close in a compound": close_in_a_compound,
     "one client with two keys": two_keys_of_one_client, "a client with two connections": two_connections,
