@@ -25,11 +25,10 @@ HEAD = "//! The proved crates as modules, without their contracts.\n//!\n//! Mad
 
 @dataclass(frozen=True)
 class Package:
-    """A package of the workspace: the crates that become its modules, and one of tests alone that becomes a folder of `tests`."""
+    """A package of the workspace: the crates that become its modules."""
 
     name: str
     crates: tuple[str, ...]
-    tests: tuple[str, ...] = ()
 
     def paths_within(self) -> dict[str, str]:
         """Where its crates stand, for its own modules."""
@@ -47,7 +46,6 @@ PACKAGES = (
             *("lease_state", "lease_wire", "lease_manager", "break_timers", "share_server", "lease_client", "lease_facts"),
             "lease_world",
         ),
-        ("machine_examples",),
     ),
     Package("smblease_c", ("lease_c", "machines_c")),
     Package(
@@ -56,7 +54,6 @@ PACKAGES = (
             *("capture_wire", "capture_judge", "capture_walk", "lease_reasons", "lease_texts", "capture_texts", "lease_lines"),
             *("record_words", "text_laws", "leasecheck"),
         ),
-        ("text_examples",),
     ),
     Package("lease_bench", ("lease_bench",)),
     Package("server_comparison", ("server_comparison",)),
@@ -65,7 +62,7 @@ PACKAGES = (
 
 def unplaced(crates: Mapping[str, Crate]) -> list[str]:
     """The crates with something left in them that no package has."""
-    placed = {crate for package in PACKAGES for crate in (*package.crates, *package.tests)}
+    placed = {crate for package in PACKAGES for crate in package.crates}
     return [name for name, crate in crates.items() if name not in placed and not crate.modules[()].is_empty]
 
 
@@ -83,9 +80,9 @@ def prepare(crates: Mapping[str, Crate]) -> None:
     Unread(crates).drop()
 
 
-def root_of(package: Package, crate: str) -> Path:
+def root_of(crate: str) -> Path:
     """The file of a crate's root, below the package's folder."""
-    return Path("tests", crate, "main.rs") if crate in package.tests else Path("src", "proved", f"{crate}.rs")
+    return Path("src", "proved", f"{crate}.rs")
 
 
 def place_in(package: Package, crate: Crate) -> Place:
@@ -93,15 +90,13 @@ def place_in(package: Package, crate: Crate) -> Place:
     others: dict[str, str] = {}
     for other in PACKAGES:
         others |= other.paths_outside()
-    if crate.name in package.tests:
-        return place_of(crate, {crate.name: "crate"}, others)
     return place_of(crate, package.paths_within(), others)
 
 
 def files_of(package: Package, crate: Crate) -> Iterator[tuple[Path, str]]:
     """Each file that a crate becomes, with its text."""
-    root = root_of(package, crate.name)
-    folder = root.parent if crate.name in package.tests else root.with_suffix("")
+    root = root_of(crate.name)
+    folder = root.with_suffix("")
     place = place_in(package, crate)
     for path, module in crate.modules.items():
         yield (folder.joinpath(*path).with_suffix(".rs") if path else root), written(module, place)
@@ -116,21 +111,19 @@ def all_files(crates: Mapping[str, Crate]) -> Iterator[tuple[Path, str]]:
     """Each file that is made, below the workspace's folder, with its text."""
     for package in PACKAGES:
         yield Path(package.name, "src", "proved.rs"), list_of(package)
-        for name in (*package.crates, *package.tests):
+        for name in package.crates:
             for file, text in files_of(package, crates[name]):
                 yield Path(package.name, file), text
 
 
 def roots() -> list[Path]:
     """The files that lead to all others."""
-    tests = [Path(package.name, root_of(package, crate)) for package in PACKAGES for crate in package.tests]
-    return [Path(package.name, "src", "proved.rs") for package in PACKAGES] + tests
+    return [Path(package.name, "src", "proved.rs") for package in PACKAGES]
 
 
 def made_folders() -> list[Path]:
     """The folders in which every file is made."""
-    sources = [Path(package.name, "src", "proved") for package in PACKAGES]
-    return sources + [Path(package.name, root_of(package, crate)).parent for package in PACKAGES for crate in package.tests]
+    return [Path(package.name, "src", "proved") for package in PACKAGES]
 
 
 def lay_out(folder: Path, settings: Path, files: Sequence[Path]) -> None:

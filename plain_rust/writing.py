@@ -11,8 +11,6 @@ from plain_rust.sources import Crate, Module
 from plain_rust.tokens import Kind, Token, before, rust, text_of, word
 
 FENCE = "```"
-# The root of a crate of tests has `smblease_std` under the name that the proved code calls.
-ROOT = "{allowed}#![no_std]\n\n{text}\nextern crate smblease_std as std;\n"
 
 
 @dataclass(frozen=True)
@@ -124,5 +122,4 @@ def written(module: Module, place: Place) -> str:
     tokens = [token for item in items for token in item.tokens()]
     head = f"// Made by tools/plain_rust from {module.file}. Changes belong there.\n\n"
     text = text_of(with_fences(with_paths(tokens, place))).strip() + "\n"
-    is_root = place.root == "crate" and not module.path
-    return head + (ROOT.format(allowed=allowed(), text=text) if is_root else text)
+    return head + text

@@ -24,7 +24,7 @@ def is_an_edit(name: str) -> bool:
 
 
 def is_a_test(name: str) -> bool:
-    return any(f"def {name}(" in it.read_text(encoding="utf-8") for it in TESTS.rglob("test_*.py"))
+    return any(f"def {name}(" in it.read_text(encoding="utf-8") for it in TESTS.rglob("test_*.py")) or any(TOP.glob(f"rust/*/tests/{name}"))
 
 
 def test_each_wrong_version_is_tried() -> None:

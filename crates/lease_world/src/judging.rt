@@ -128,29 +128,3 @@ impl Judge {
         self.verdict
     }
 }
-
-#[cfg(test)]
-mod tests {
-    use super::Judge;
-    use lease_facts::Fact;
-    use lease_state::{ClientNo, Memory};
-    use std::alloc::Global;
-    use std::test::Fail;
-
-    // A judge takes a fact after so many, of which it keeps nothing.
-    fn take_after(alloc: Global, count: u64) -> Result<(), Memory> {
-        let mut judge = Judge::new(alloc);
-        judge.count = count;
-        judge.add(&Fact::Joined(ClientNo(1)))
-    }
-
-    #[test]
-    fn facts_are_counted_with_64_bits(rt: HostRuntime) -> Result<(), Fail> {
-        let alloc = rt.alloc();
-        take_after(alloc, u64::from(u16::MAX))?;
-        take_after(alloc, u64::from(u32::MAX))?;
-        take_after(alloc, u64::MAX - 1)?;
-        assert!(rt; take_after(alloc, u64::MAX).is_err());
-        Ok(())
-    }
-}

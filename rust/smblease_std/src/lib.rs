@@ -22,6 +22,8 @@ pub mod hash;
 mod macros;
 mod map;
 pub mod ports;
+#[cfg(any(feature = "host", test))]
+pub mod refusing;
 mod set;
 pub mod simd;
 mod sorting;

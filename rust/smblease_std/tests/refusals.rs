@@ -4,56 +4,15 @@ use smblease_std::collections::{BTreeMap, BTreeSet, VecDeque};
 use smblease_std::ports::bytes::Bytes;
 use smblease_std::ports::hex;
 use smblease_std::prelude::{Box, String, Vec};
-use std::alloc::{GlobalAlloc, Layout, System};
-use std::cell::Cell;
-
-// Rust's allocator, which refuses once so many growths of the thread were granted.
-struct Refusing;
-
-thread_local! {
-    static GRANTED: Cell<Option<usize>> = const { Cell::new(None) };
-}
-
-fn is_granted() -> bool {
-    GRANTED
-        .try_with(|granted| match granted.get() {
-            Some(0) => false,
-            Some(count) => {
-                granted.set(Some(count - 1));
-                true
-            }
-            None => true,
-        })
-        .unwrap_or(true)
-}
-
-// SAFETY: memory is Rust's allocator's own; a growth that is refused changes nothing.
-unsafe impl GlobalAlloc for Refusing {
-    unsafe fn alloc(&self, layout: Layout) -> *mut u8 {
-        // SAFETY: the caller's word.
-        if is_granted() { unsafe { System.alloc(layout) } } else { std::ptr::null_mut() }
-    }
-
-    unsafe fn dealloc(&self, at: *mut u8, layout: Layout) {
-        // SAFETY: the caller's word.
-        unsafe { System.dealloc(at, layout) }
-    }
-
-    unsafe fn realloc(&self, at: *mut u8, layout: Layout, size: usize) -> *mut u8 {
-        // SAFETY: the caller's word.
-        if is_granted() { unsafe { System.realloc(at, layout, size) } } else { std::ptr::null_mut() }
-    }
-}
+use smblease_std::refusing::{Refusing, without};
+use smblease_std::test::{Fail, passes};
 
 #[global_allocator]
 static REFUSING: Refusing = Refusing;
 
 // What the call gives where so many growths are granted.
 fn with<T>(granted: usize, call: impl FnOnce() -> T) -> T {
-    GRANTED.set(Some(granted));
-    let given = call();
-    GRANTED.set(None);
-    given
+    without(granted + 1..=usize::MAX, call)
 }
 
 // Makes the call with no growth granted, with one, and so on until it succeeds; gives how many it needs.
@@ -167,4 +126,32 @@ fn boxes_and_shared_bytes() {
     drop(shared);
     let bytes = bytes.try_into_mut().unwrap_or_else(|_| unreachable!("one holds it")).into_vec().expect("it is a vector");
     assert_eq!(bytes.as_slice(), b"abc");
+}
+
+#[test]
+#[should_panic(expected = "without allocations 1..=1 the test fails otherwise")]
+fn a_test_that_takes_want_of_memory_for_an_answer_fails() {
+    passes(|| -> Result<(), Fail> {
+        assert!(Vec::from_slice(Global, &[1]).is_ok());
+        Ok(())
+    });
+}
+
+#[test]
+#[should_panic(expected = "without allocations 2..=2: \"no room\"")]
+fn a_test_that_ends_with_another_error_fails() {
+    passes(|| -> Result<(), Fail> {
+        let _first = Vec::from_slice(Global, &[1])?;
+        let _second = Vec::from_slice(Global, &[2]).map_err(|_| "no room")?;
+        Ok(())
+    });
+}
+
+#[test]
+fn a_test_may_end_with_want_of_memory() {
+    passes(|| -> Result<(), Fail> {
+        let mut text = String::from_str(Global, "a")?;
+        text.push_str(" longer text than there was room for")?;
+        Ok(())
+    });
 }

@@ -1,5 +1,3 @@
-// Made by tools/plain_rust from crates/text_examples/src/lines.rt. Changes belong there.
-
 use leasecheck::proved::lease_texts::{
     Arrival, Complaint, Field, Fields, LineFault, Part, Said, complaint_about, fact_table, outcome_word, part_table,
     push_complaint, push_complaint_line, push_event, push_fact, push_line, push_quoted, push_setup, read_arrival, read_fact,
@@ -11,9 +9,10 @@ use smblease::proved::lease_state::{
     Access, Bytes, ClientNo, FileId, FileNo, LeaseState, Order, Patch, Reply, Request, Rise, Rules, Share, Status,
 };
 use smblease::proved::lease_world::{Event, Fact};
-use std::alloc::Global;
-use std::prelude::{HostRuntime, String, Vec};
-use std::test::Fail;
+use smblease_std::alloc::Global;
+use smblease_std::prelude::{String, Vec};
+use smblease_std::test::Fail;
+use smblease_std::test::passes;
 
 mod machines;
 
@@ -56,15 +55,13 @@ fn facts(alloc: Global) -> Result<Vec<Fact>, Fail> {
 // The line of each fact is read as that fact, also with other letters in its digits.
 #[test]
 fn lines_are_read_back() {
-    std::test::passes(|| -> Result<(), Fail> {
-        let rt = HostRuntime::host();
-        let alloc = rt.alloc();
+    passes(|| -> Result<(), Fail> {
+        let alloc = Global;
         for fact in facts(alloc)? {
             let mut text = String::new(alloc);
             push_fact(&mut text, &fact)?;
             let Some(line) = text.as_str().strip_suffix('\n') else {
-                assert!(false, "no line feed behind {fact:?}");
-                continue;
+                panic!("no line feed behind {fact:?}");
             };
             let read = read_fact(alloc, line.as_bytes())?;
             assert!(read == fact, "{line} is read as {read:?}");
@@ -81,10 +78,9 @@ fn lines_are_read_back() {
 // A schedule of three lines, of which one counts for nothing.
 #[test]
 fn a_schedule_is_read() {
-    std::test::passes(|| -> Result<(), Fail> {
-        let rt = HostRuntime::host();
+    passes(|| -> Result<(), Fail> {
         let text = b"file 616263\n# a remark\nclient 11111111111111111111111111111111\ncut 1";
-        let schedule = read_schedule(rt.alloc(), text)?;
+        let schedule = read_schedule(Global, text)?;
         assert_eq!(schedule.setup.files.len(), 1);
         assert_eq!(schedule.setup.clients.as_slice(), [[0x11; 16]].as_slice());
         assert_eq!(schedule.events.as_slice(), [Event::Cut(ClientNo(1))].as_slice());
@@ -162,9 +158,8 @@ raw 1 ack a5a5a5a5a5a5a5a5a5a5a5a5a5a5a5a5a5a5a5a5a5a5a5a5a5a5a5a5a5a5a5a5a5a5a5
 // The lines of a setup and of each event, and the schedule that they are read as.
 #[test]
 fn a_schedule_is_written_and_read_back() {
-    std::test::passes(|| -> Result<(), Fail> {
-        let rt = HostRuntime::host();
-        let alloc = rt.alloc();
+    passes(|| -> Result<(), Fail> {
+        let alloc = Global;
         let setup = read_schedule(
             alloc,
             b"file 616263\nfile -\nclient 11111111111111111111111111111111
@@ -189,9 +184,8 @@ client {00010203-0405-0607-0809-0A0B0C0D0E0F}",
 // The record of a run of which a replay's print is judged to be safe.
 #[test]
 fn a_run_is_judged() {
-    std::test::passes(|| -> Result<(), Fail> {
-        let rt = HostRuntime::host();
-        let alloc = rt.alloc();
+    passes(|| -> Result<(), Fail> {
+        let alloc = Global;
         let text = b"file 616263\nclient 11111111111111111111111111111111\nconnect 1\nnotice 1";
         let schedule = read_schedule(alloc, text)?;
         let (setup, events) = (&schedule.setup, schedule.events.as_slice());
@@ -217,9 +211,8 @@ fn said(alloc: Global, complaint: Option<Complaint<'_>>) -> Result<String, Fail>
 
 #[test]
 fn refused_facts_are_complained_of() {
-    std::test::passes(|| -> Result<(), Fail> {
-        let rt = HostRuntime::host();
-        let alloc = rt.alloc();
+    passes(|| -> Result<(), Fail> {
+        let alloc = Global;
         let state = said(alloc, complaint_about(alloc, fact_table(), b"believes 1 1 HR")?)?;
         let wanted = "field 4: a state, which is none or letters of RWH in that order; it is \"HR\"";
         assert_eq!(state.as_str(), wanted);
@@ -235,9 +228,8 @@ fn refused_facts_are_complained_of() {
 
 #[test]
 fn refused_parts_are_complained_of() {
-    std::test::passes(|| -> Result<(), Fail> {
-        let rt = HostRuntime::host();
-        let alloc = rt.alloc();
+    passes(|| -> Result<(), Fail> {
+        let alloc = Global;
         let word = said(alloc, complaint_about(alloc, part_table(), b"open 1 1 r r none always")?)?;
         let wanted = "field 7: the word durable or the line's end; it is \"always\"";
         assert_eq!(word.as_str(), wanted);
@@ -252,9 +244,8 @@ fn refused_parts_are_complained_of() {
 
 #[test]
 fn a_complaint_has_the_number_of_its_line() {
-    std::test::passes(|| -> Result<(), Fail> {
-        let rt = HostRuntime::host();
-        let alloc = rt.alloc();
+    passes(|| -> Result<(), Fail> {
+        let alloc = Global;
         let mut text = String::new(alloc);
         if let Some(complaint) = complaint_about(alloc, part_table(), b"serve")? {
             push_complaint_line(alloc, &mut text, 12, &complaint)?;
@@ -268,9 +259,8 @@ fn a_complaint_has_the_number_of_its_line() {
 
 #[test]
 fn bytes_are_quoted() {
-    std::test::passes(|| -> Result<(), Fail> {
-        let rt = HostRuntime::host();
-        let alloc = rt.alloc();
+    passes(|| -> Result<(), Fail> {
+        let alloc = Global;
         let mut text = String::new(alloc);
         push_quoted(alloc, &mut text, b"a\"\\\xff\n")?;
         assert_eq!(text.as_str(), "\"a\\x22\\x5c\\xff\\x0a\"");
@@ -280,9 +270,8 @@ fn bytes_are_quoted() {
 
 #[test]
 fn a_line_is_written_field_by_field() {
-    std::test::passes(|| -> Result<(), Fail> {
-        let rt = HostRuntime::host();
-        let alloc = rt.alloc();
+    passes(|| -> Result<(), Fail> {
+        let alloc = Global;
         let mut text = String::new(alloc);
         let told = Reply::CreateFailed { file: FileNo(2), status: Status::SharingViolation };
         push_line(&mut text, "sent", &[Said::Client(ClientNo(1)), Said::Reply(&told)])?;
@@ -294,7 +283,7 @@ fn a_line_is_written_field_by_field() {
 
 #[test]
 fn a_word_stands_for_rules() {
-    std::test::passes(|| -> Result<(), Fail> {
+    passes(|| -> Result<(), Fail> {
         let rules = Rules { order: Order::ByKey, rise: Rise::AsFree };
         assert_eq!(rules_in(b"by-key,as-free"), Some(rules));
         assert_eq!(rules_in(b"by-key"), None);
@@ -304,11 +293,10 @@ fn a_word_stands_for_rules() {
 
 #[test]
 fn one_line_is_read() {
-    std::test::passes(|| -> Result<(), Fail> {
-        let rt = HostRuntime::host();
-        let alloc = rt.alloc();
+    passes(|| -> Result<(), Fail> {
+        let alloc = Global;
         let Ok(Part::Happens(event)) = read_part(alloc, b"cut 2") else {
-            return Err("no event")?;
+            return Err(Fail::from("no event"));
         };
         assert!(event == Event::Cut(ClientNo(2)));
         let wanted =
@@ -321,7 +309,7 @@ fn one_line_is_read() {
 
 #[test]
 fn tables_have_the_lines_of_their_kinds() {
-    std::test::passes(|| -> Result<(), Fail> {
+    passes(|| -> Result<(), Fail> {
         let rows = request_table().1;
         assert_eq!(rows.len(), 5);
         assert_eq!(rows[1].0, "read");
@@ -333,5 +321,5 @@ fn tables_have_the_lines_of_their_kinds() {
 
 #[test]
 fn the_laws_of_lines_do_nothing() {
-    std::test::passes(|| -> Result<(), Fail> { Ok(()) })
+    passes(|| -> Result<(), Fail> { Ok(()) })
 }

@@ -1,43 +1,12 @@
-// Made by tools/plain_rust from crates/text_examples/src/lib.rt. Changes belong there.
+//! Worked examples of what is read, judged and written: messages and captures, bounds of what clients cached, the texts of schedules
+//! and records, machines that speak lines, explanations and pictures. Each runs again with each allocation refused in turn.
 
-#![allow(missing_docs, reason = "fields are told where their struct is")]
-#![allow(
-    clippy::assertions_on_constants,
-    clippy::collapsible_if,
-    clippy::collapsible_match,
-    clippy::explicit_counter_loop,
-    clippy::len_zero,
-    clippy::manual_contains,
-    clippy::manual_find,
-    clippy::manual_is_multiple_of,
-    clippy::manual_map,
-    clippy::manual_ok_err,
-    clippy::manual_range_contains,
-    clippy::manual_range_patterns,
-    clippy::manual_unwrap_or,
-    clippy::manual_unwrap_or_default,
-    clippy::needless_lifetimes,
-    clippy::needless_range_loop,
-    clippy::needless_return_with_question_mark,
-    clippy::question_mark,
-    clippy::redundant_pattern_matching,
-    clippy::should_implement_trait,
-    clippy::single_match,
-    clippy::too_many_arguments,
-    clippy::type_complexity,
-    clippy::write_with_newline,
-    reason = "the form that the prover takes"
-)]
-#![no_std]
+use smblease_std::refusing::Refusing;
 
-//! Worked examples of what is read and written, as tests: messages and captures, the texts of schedules and records, machines
-//! that speak lines, explanations and pictures. They stand apart from the crates that do it, so that each of these is proved once
-//! and not a second time with them.
-#[cfg(test)]
 mod lines;
-#[cfg(test)]
 mod pictures;
-#[cfg(test)]
+mod placing;
 mod wire;
 
-extern crate smblease_std as std;
+#[global_allocator]
+static REFUSING: Refusing = Refusing;

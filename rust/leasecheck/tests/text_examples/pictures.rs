@@ -1,5 +1,3 @@
-// Made by tools/plain_rust from crates/text_examples/src/pictures.rt. Changes belong there.
-
 use leasecheck::proved::lease_reasons::{Messages, explain, extent_of};
 use leasecheck::proved::record_words::{
     Caption, ClientFact, FactKind, Look, Mark, Passage, Picture, PictureFault, Point, Remark, Shape, Size, bad_places,
@@ -7,16 +5,17 @@ use leasecheck::proved::record_words::{
 };
 use smblease::proved::lease_state::{Bytes, ClientNo, FileId, Request};
 use smblease::proved::lease_world::judge;
-use std::prelude::{HostRuntime, String, Vec, vec};
-use std::test::Fail;
+use smblease_std::alloc::Global;
+use smblease_std::prelude::{String, Vec, vec};
+use smblease_std::test::Fail;
+use smblease_std::test::passes;
 
 const RECORD: &[u8] = b"start 1 61\n# a remark\njoined 1\nsent 1\ntook 1\nsettled 1 1 done\n";
 
 #[test]
 fn words_are_escaped() {
-    std::test::passes(|| -> Result<(), Fail> {
-        let rt = HostRuntime::host();
-        let alloc = rt.alloc();
+    passes(|| -> Result<(), Fail> {
+        let alloc = Global;
         let at = Point { x: 3, y: 4 };
         let words = Shape::Words { at, text: String::from_str(alloc, "<1 & 2>")?, look: Look::Label };
         let mark = Mark {
@@ -54,9 +53,8 @@ fn words_are_escaped() {
 
 #[test]
 fn a_bad_fact_is_marked() {
-    std::test::passes(|| -> Result<(), Fail> {
-        let rt = HostRuntime::host();
-        let alloc = rt.alloc();
+    passes(|| -> Result<(), Fail> {
+        let alloc = Global;
         let placed = read_placed(alloc, RECORD)?;
         let facts = placed.facts.as_slice();
         let verdict = judge(alloc, facts)?;
@@ -81,9 +79,8 @@ fn a_bad_fact_is_marked() {
 
 #[test]
 fn facts_are_told_in_words() {
-    std::test::passes(|| -> Result<(), Fail> {
-        let rt = HostRuntime::host();
-        let alloc = rt.alloc();
+    passes(|| -> Result<(), Fail> {
+        let alloc = Global;
         let placed = read_placed(alloc, RECORD)?;
         assert_eq!(placed.line(3), 4);
         let Some(fact) = placed.fact(3) else {
@@ -102,9 +99,8 @@ fn facts_are_told_in_words() {
 
 #[test]
 fn requests_are_drawn() {
-    std::test::passes(|| -> Result<(), Fail> {
-        let rt = HostRuntime::host();
-        let alloc = rt.alloc();
+    passes(|| -> Result<(), Fail> {
+        let alloc = Global;
         let placed = read_placed(alloc, RECORD)?;
         let (client, sent) = (ClientNo(1), Request::Read { fid: FileId(7) });
         let passages = vec![in alloc;
@@ -139,9 +135,8 @@ fn requests_are_drawn() {
 
 #[test]
 fn more_facts_than_a_picture_has() {
-    std::test::passes(|| -> Result<(), Fail> {
-        let rt = HostRuntime::host();
-        let alloc = rt.alloc();
+    passes(|| -> Result<(), Fail> {
+        let alloc = Global;
         let mut text = String::new(alloc);
         for _ in 0..5001 {
             text.push_str("joined 1\n")?;
@@ -155,9 +150,8 @@ fn more_facts_than_a_picture_has() {
 
 #[test]
 fn lanes_stand_by_their_numbers_around_the_server() {
-    std::test::passes(|| -> Result<(), Fail> {
-        let rt = HostRuntime::host();
-        let alloc = rt.alloc();
+    passes(|| -> Result<(), Fail> {
+        let alloc = Global;
         let placed = read_placed(alloc, b"joined 255\njoined 2\njoined 1\n")?;
         let notes = String::from_str(alloc, "one\ntwo\n")?;
         let picture = picture_of(alloc, placed.facts.as_slice(), &[], notes, &[], &[], &[])?;
@@ -176,9 +170,8 @@ fn lanes_stand_by_their_numbers_around_the_server() {
 // The third and the fifth fact have no row of remarks: one is empty, and there is none for the other.
 #[test]
 fn remarks_stand_beside_their_facts() {
-    std::test::passes(|| -> Result<(), Fail> {
-        let rt = HostRuntime::host();
-        let alloc = rt.alloc();
+    passes(|| -> Result<(), Fail> {
+        let alloc = Global;
         let placed = read_placed(alloc, RECORD)?;
         let mut remarks = Vec::new(alloc);
         for words in [b"one".as_slice(), b"two", b"", b"four"] {

@@ -1,6 +1,6 @@
-// Made by tools/plain_rust from crates/text_examples/src/wire.rt. Changes belong there.
-
-use std::prelude::{HostRuntime, Vec, format};
+use smblease_std::alloc::Global;
+use smblease_std::prelude::{Vec, format};
+use smblease_std::test::passes;
 mod capture_lines;
 mod captures;
 mod contents;
@@ -16,7 +16,7 @@ use smblease::proved::lease_wire::{
     Acknowledgment, BreakResponse, Context, CreateAnswer, CreateAsk, Notification, WireFault, contexts, fill_create_ask,
     fill_create_reply, read_context_at, read_create, read_create_reply, write_create_ask, write_create_reply,
 };
-use std::test::Fail;
+use smblease_std::test::Fail;
 
 const KEY: LeaseKey = LeaseKey([0, 1, 2, 3, 4, 5, 6, 7, 8, 9, 10, 11, 12, 13, 14, 15]);
 
@@ -28,8 +28,7 @@ const ASK: &[u8; 96] = b"\x38\0\0\0\x10\0\x04\0\0\0\x18\0\x20\0\0\0RqLs\0\0\0\0\
 // The example at the top of the crate.
 #[test]
 fn the_example_holds() {
-    std::test::passes(|| -> Result<(), Fail> {
-        let rt = HostRuntime::host();
+    passes(|| -> Result<(), Fail> {
         let message = Notification {
             ack_required: true,
             key: LeaseKey([7; 16]),
@@ -40,7 +39,7 @@ fn the_example_holds() {
         assert_eq!(Notification::decode(&bytes), Ok((message, b"".as_slice())));
         assert_eq!(Notification::decode(&bytes[1..]), Err(WireFault::Short(0)));
 
-        let mut contexts = Vec::new(rt.alloc());
+        let mut contexts = Vec::new(Global);
         let ask = CreateAsk { lease: Some((message.key, message.new)), durable: true, reconnect: None };
         write_create_ask(&ask, &mut contexts)?;
         assert_eq!(read_create(contexts.as_slice()), Ok(ask));
@@ -50,10 +49,9 @@ fn the_example_holds() {
 
 #[test]
 fn writes_a_request() {
-    std::test::passes(|| -> Result<(), Fail> {
-        let rt = HostRuntime::host();
+    passes(|| -> Result<(), Fail> {
         let ask = CreateAsk { lease: Some((KEY, LeaseState::from_wire(3))), durable: true, reconnect: None };
-        let mut out = Vec::new(rt.alloc());
+        let mut out = Vec::new(Global);
         out.push(7)?;
         write_create_ask(&ask, &mut out)?;
         assert_eq!(&out[1..], ASK.as_slice());
@@ -64,10 +62,9 @@ fn writes_a_request() {
 
 #[test]
 fn writes_a_reconnect_and_nothing() {
-    std::test::passes(|| -> Result<(), Fail> {
-        let rt = HostRuntime::host();
+    passes(|| -> Result<(), Fail> {
         let mut ask = CreateAsk { lease: None, durable: false, reconnect: Some(FileId(1)) };
-        let mut out = Vec::new(rt.alloc());
+        let mut out = Vec::new(Global);
         write_create_ask(&ask, &mut out)?;
         let text = b"\0\0\0\0\x10\0\x04\0\0\0\x18\0\x10\0\0\0DHnC\0\0\0\0\x01\0\0\0\0\0\0\0\x01\0\0\0\0\0\0\0";
         assert_eq!(out.as_slice(), text.as_slice());
@@ -81,10 +78,9 @@ fn writes_a_reconnect_and_nothing() {
 
 #[test]
 fn writes_a_response() {
-    std::test::passes(|| -> Result<(), Fail> {
-        let rt = HostRuntime::host();
+    passes(|| -> Result<(), Fail> {
         let answer = CreateAnswer { lease: Some((KEY, LeaseState::from_wire(3), true)), durable: false };
-        let mut out = Vec::new(rt.alloc());
+        let mut out = Vec::new(Global);
         write_create_reply(&answer, &mut out)?;
         let text = b"\0\0\0\0\x10\0\x04\0\0\0\x18\0\x20\0\0\0RqLs\0\0\0\0\
 \0\x01\x02\x03\x04\x05\x06\x07\x08\x09\x0a\x0b\x0c\x0d\x0e\x0f\x03\0\0\0\x02\0\0\0\0\0\0\0\0\0\0\0";
@@ -135,10 +131,9 @@ fn answers_a_break_that_asks_for_it() {
 
 #[test]
 fn borrows_the_parts_of_contexts() {
-    std::test::passes(|| -> Result<(), Fail> {
-        let rt = HostRuntime::host();
+    passes(|| -> Result<(), Fail> {
         let text = ASK.as_slice();
-        let mut all: Vec<Context> = Vec::new(rt.alloc());
+        let mut all: Vec<Context> = Vec::new(Global);
         for item in contexts(text) {
             all.push(item?)?;
         }
@@ -172,10 +167,9 @@ fn writes_break_messages() {
 
 #[test]
 fn writes_a_request_for_a_lease() {
-    std::test::passes(|| -> Result<(), Fail> {
-        let rt = HostRuntime::host();
+    passes(|| -> Result<(), Fail> {
         let ask = CreateAsk { lease: Some((KEY, LeaseState::from_wire(7))), durable: false, reconnect: None };
-        let mut out = Vec::new(rt.alloc());
+        let mut out = Vec::new(Global);
         write_create_ask(&ask, &mut out)?;
         let text = b"\0\0\0\0\x10\0\x04\0\0\0\x18\0\x20\0\0\0RqLs\0\0\0\0\
 \0\x01\x02\x03\x04\x05\x06\x07\x08\x09\x0a\x0b\x0c\x0d\x0e\x0f\x07\0\0\0\0\0\0\0\0\0\0\0\0\0\0\0";
@@ -186,9 +180,8 @@ fn writes_a_request_for_a_lease() {
 
 #[test]
 fn reads_back_each_kind_of_request() {
-    std::test::passes(|| -> Result<(), Fail> {
-        let rt = HostRuntime::host();
-        let mut out = Vec::new(rt.alloc());
+    passes(|| -> Result<(), Fail> {
+        let mut out = Vec::new(Global);
         for kinds in 0..8u8 {
             let (leased, durable, reconnects) = (kinds & 1 == 1, kinds & 2 == 2, kinds & 4 == 4);
             let ask = CreateAsk {
@@ -208,9 +201,8 @@ fn reads_back_each_kind_of_request() {
 
 #[test]
 fn reads_back_each_kind_of_response() {
-    std::test::passes(|| -> Result<(), Fail> {
-        let rt = HostRuntime::host();
-        let mut out = Vec::new(rt.alloc());
+    passes(|| -> Result<(), Fail> {
+        let mut out = Vec::new(Global);
         for kinds in 0..4u8 {
             let (leased, durable) = (kinds & 1 == 1, kinds & 2 == 2);
             let answer = CreateAnswer { lease: leased.then_some((KEY, LeaseState::from_wire(1), false)), durable };
@@ -226,8 +218,7 @@ fn reads_back_each_kind_of_response() {
 
 #[test]
 fn faults_tell_number_name_and_place() {
-    std::test::passes(|| -> Result<(), Fail> {
-        let rt = HostRuntime::host();
+    passes(|| -> Result<(), Fail> {
         let faults = [
             (WireFault::Short(0), "1 Short at 0"),
             (WireFault::WrongSize(0), "2 WrongSize at 0"),
@@ -238,7 +229,7 @@ fn faults_tell_number_name_and_place() {
             (WireFault::Twice(112), "7 Twice at 112"),
         ];
         for (fault, text) in faults {
-            let told = format!(in rt.alloc(); "{fault}")?;
+            let told = format!(in Global; "{fault}")?;
             assert_eq!(told.as_str(), text);
         }
         let fault = WireFault::BadNext(56);
@@ -251,17 +242,16 @@ fn faults_tell_number_name_and_place() {
 // `tests/refused_growths` runs this with each allocation refused.
 #[test]
 fn a_refused_writer_leaves_the_vector() {
-    std::test::passes(|| -> Result<(), Fail> {
-        let rt = HostRuntime::host();
+    passes(|| -> Result<(), Fail> {
         let ask = CreateAsk { lease: Some((KEY, LeaseState::from_wire(3))), durable: true, reconnect: None };
         let answer = CreateAnswer { lease: Some((KEY, LeaseState::from_wire(3), true)), durable: true };
-        let mut asked = Vec::new(rt.alloc());
+        let mut asked = Vec::new(Global);
         asked.push(7)?;
         match write_create_ask(&ask, &mut asked) {
             Ok(()) => assert_eq!(&asked[1..], ASK.as_slice()),
             Err(_) => assert_eq!(asked.as_slice(), [7].as_slice()),
         }
-        let mut answered = Vec::new(rt.alloc());
+        let mut answered = Vec::new(Global);
         answered.push(7)?;
         match write_create_reply(&answer, &mut answered) {
             Ok(()) => assert_eq!(read_create_reply(&answered[1..]).ok(), Some(answer)),

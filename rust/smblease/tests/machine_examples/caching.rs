@@ -1,6 +1,5 @@
-// Made by tools/plain_rust from crates/machine_examples/src/caching.rt. Changes belong there.
-
-use std::prelude::HostRuntime;
+use smblease_std::alloc::Global;
+use smblease_std::test::passes;
 mod asking;
 mod cache;
 mod example;
@@ -12,7 +11,7 @@ mod setting;
 use crate::caching::setting::{GUID, open, open_all, read, refuses};
 use smblease::proved::lease_client::{Client, Refusal, lease_key};
 use smblease::proved::lease_state::{Access, FileNo, LeaseKey, LeaseState, Share};
-use std::test::Fail;
+use smblease_std::test::Fail;
 
 #[test]
 fn a_key_has_twelve_bytes_of_the_guid_and_the_file() {
@@ -26,13 +25,12 @@ fn a_key_has_twelve_bytes_of_the_guid_and_the_file() {
 
 #[test]
 fn a_new_client_believes_nothing() {
-    std::test::passes(|| -> Result<(), Fail> {
-        let rt = HostRuntime::host();
-        let client = Client::new(rt.alloc(), GUID, 2)?;
+    passes(|| -> Result<(), Fail> {
+        let client = Client::new(Global, GUID, 2)?;
         for file in [0, 1, 2, 3, 255] {
             assert_eq!(client.belief(FileNo(file)), LeaseState::NONE);
         }
-        let idle = Client::new(rt.alloc(), GUID, 0)?;
+        let idle = Client::new(Global, GUID, 0)?;
         assert_eq!(idle.belief(FileNo(1)), LeaseState::NONE);
         Ok(())
     })
@@ -40,9 +38,8 @@ fn a_new_client_believes_nothing() {
 
 #[test]
 fn a_client_that_was_never_connected_opens_nothing() {
-    std::test::passes(|| -> Result<(), Fail> {
-        let rt = HostRuntime::host();
-        let client = Client::new(rt.alloc(), GUID, 1)?;
+    passes(|| -> Result<(), Fail> {
+        let client = Client::new(Global, GUID, 1)?;
         let client = refuses(client, open_all(7, false), Refusal::Offline)?;
         let client = refuses(client, read(), Refusal::NotOpen)?;
         let other = open(2, Access::ReadWrite, Share::ReadWrite, 7, false);

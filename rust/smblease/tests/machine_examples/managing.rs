@@ -1,6 +1,6 @@
-// Made by tools/plain_rust from crates/machine_examples/src/managing.rt. Changes belong there.
-
-use std::prelude::{HostRuntime, Vec};
+use smblease_std::alloc::Global;
+use smblease_std::prelude::Vec;
+use smblease_std::test::passes;
 mod breaks;
 mod ends;
 mod timers;
@@ -8,15 +8,14 @@ mod words;
 
 use smblease::proved::lease_manager::{Ask, ClientNo, Decision, FileNo, HeldLease, ListedOpen, Manager, Tag};
 use smblease::proved::lease_state::{Access, FileId, LeaseState, Order, Rise, Rules, Share, Status};
-use std::test::Fail;
+use smblease_std::test::Fail;
 use words::{FILE, KEY, ONE, TWO, create, gave, joined, opened};
 
 #[test]
 fn a_new_manager_has_nothing() {
-    std::test::passes(|| -> Result<(), Fail> {
-        let rt = HostRuntime::host();
+    passes(|| -> Result<(), Fail> {
         let rules = Rules { order: Order::ByKey, rise: Rise::Whole };
-        let manager = Manager::new(rt.alloc(), rules);
+        let manager = Manager::new(Global, rules);
         assert_eq!(manager.rules(), rules);
         assert_eq!(manager.open_count(), 0);
         assert!(manager.opens()?.is_empty());
@@ -32,9 +31,8 @@ fn a_new_manager_has_nothing() {
 
 #[test]
 fn a_client_that_has_not_joined_is_told_nothing() {
-    std::test::passes(|| -> Result<(), Fail> {
-        let rt = HostRuntime::host();
-        let alloc = rt.alloc();
+    passes(|| -> Result<(), Fail> {
+        let alloc = Global;
         let mut manager = Manager::new(alloc, Rules::profile());
         let mut told = Vec::new(alloc);
         manager.ask(ONE, Tag(1), create(KEY, 7, false), &mut told)?;
@@ -50,9 +48,8 @@ fn a_client_that_has_not_joined_is_told_nothing() {
 
 #[test]
 fn what_is_open_is_listed() {
-    std::test::passes(|| -> Result<(), Fail> {
-        let rt = HostRuntime::host();
-        let alloc = rt.alloc();
+    passes(|| -> Result<(), Fail> {
+        let alloc = Global;
         let mut manager = joined(alloc)?;
         let mut told = Vec::new(alloc);
         manager.ask(ONE, Tag(10), create(KEY, 7, true), &mut told)?;
@@ -81,9 +78,8 @@ fn what_is_open_is_listed() {
 
 #[test]
 fn the_number_0_is_no_file() {
-    std::test::passes(|| -> Result<(), Fail> {
-        let rt = HostRuntime::host();
-        let alloc = rt.alloc();
+    passes(|| -> Result<(), Fail> {
+        let alloc = Global;
         let mut manager = joined(alloc)?;
         let mut told = Vec::new(alloc);
         let ask = match create(KEY, 7, false) {
@@ -99,9 +95,8 @@ fn the_number_0_is_no_file() {
 
 #[test]
 fn a_create_past_the_last_file_is_refused() {
-    std::test::passes(|| -> Result<(), Fail> {
-        let rt = HostRuntime::host();
-        let alloc = rt.alloc();
+    passes(|| -> Result<(), Fail> {
+        let alloc = Global;
         let mut manager = Manager::with_files(alloc, Rules::profile(), FileNo(2));
         assert_eq!(manager.files(), FileNo(2));
         assert!(FileNo(2).is_file(manager.files()) && !FileNo(3).is_file(manager.files()));
@@ -123,9 +118,8 @@ fn a_create_past_the_last_file_is_refused() {
 
 #[test]
 fn an_acknowledgment_that_cannot_be_read_is_answered() {
-    std::test::passes(|| -> Result<(), Fail> {
-        let rt = HostRuntime::host();
-        let alloc = rt.alloc();
+    passes(|| -> Result<(), Fail> {
+        let alloc = Global;
         let mut manager = joined(alloc)?;
         let mut told = Vec::new(alloc);
         manager.acknowledge_malformed(ONE, &mut told)?;
@@ -137,9 +131,8 @@ fn an_acknowledgment_that_cannot_be_read_is_answered() {
 
 #[test]
 fn writes_are_allowed_to_the_key_that_is_alone() {
-    std::test::passes(|| -> Result<(), Fail> {
-        let rt = HostRuntime::host();
-        let alloc = rt.alloc();
+    passes(|| -> Result<(), Fail> {
+        let alloc = Global;
         let mut manager = joined(alloc)?;
         let mut told = Vec::new(alloc);
         manager.ask(ONE, Tag(10), create(KEY, 7, false), &mut told)?;

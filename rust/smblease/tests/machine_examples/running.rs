@@ -1,6 +1,5 @@
-// Made by tools/plain_rust from crates/machine_examples/src/running.rt. Changes belong there.
-
-use std::prelude::{HostRuntime, String, format};
+use smblease_std::prelude::{String, format};
+use smblease_std::test::passes;
 mod idle;
 mod passages;
 mod reads;
@@ -10,15 +9,14 @@ mod words;
 
 use crate::running::words::{joined, read, record, sent, start, took};
 use smblease::proved::lease_world::{Judge, Rule, RunFault, Verdict, judge_each};
-use std::alloc::Global;
-use std::test::Fail;
+use smblease_std::alloc::Global;
+use smblease_std::test::Fail;
 
 // The sixth fact shows other bytes than the file had when the last message was sent, and then nothing mends it.
 #[test]
 fn a_judge_tells_a_verdict_at_any_time() {
-    std::test::passes(|| -> Result<(), Fail> {
-        let rt = HostRuntime::host();
-        let alloc = rt.alloc();
+    passes(|| -> Result<(), Fail> {
+        let alloc = Global;
         let facts = record(
             alloc,
             [start(alloc, 1, b"abc"), joined(1), sent(1), took(1), read(alloc, 1, 1, b"abc"), read(alloc, 1, 1, b"abd"), took(2)],
@@ -40,9 +38,8 @@ fn a_judge_tells_a_verdict_at_any_time() {
 
 #[test]
 fn facts_are_judged_one_by_one() {
-    std::test::passes(|| -> Result<(), Fail> {
-        let rt = HostRuntime::host();
-        let alloc = rt.alloc();
+    passes(|| -> Result<(), Fail> {
+        let alloc = Global;
         let facts = record(alloc, [joined(1), took(1), joined(1)])?;
         assert_eq!(judge_each(alloc, facts.iter())?, Verdict::Malformed { place: 2 });
         assert_eq!(judge_each(alloc, facts.iter().take(1))?, Verdict::Safe);
@@ -57,9 +54,8 @@ fn written(alloc: Global, fault: RunFault) -> Result<String, Fail> {
 
 #[test]
 fn faults_of_runs_have_numbers() {
-    std::test::passes(|| -> Result<(), Fail> {
-        let rt = HostRuntime::host();
-        let alloc = rt.alloc();
+    passes(|| -> Result<(), Fail> {
+        let alloc = Global;
         assert_eq!(written(alloc, RunFault::BadSetup)?.as_str(), "1 BadSetup");
         assert_eq!(written(alloc, RunFault::TooMany)?.as_str(), "2 TooMany");
         assert_eq!(written(alloc, RunFault::Memory)?.as_str(), "3 Memory");

@@ -1,6 +1,6 @@
-// Made by tools/plain_rust from crates/machine_examples/src/serving.rt. Changes belong there.
-
-use std::prelude::{HostRuntime, Vec};
+use smblease_std::alloc::Global;
+use smblease_std::prelude::Vec;
+use smblease_std::test::passes;
 mod breaks;
 mod calls;
 mod durable;
@@ -11,16 +11,15 @@ use smblease::proved::lease_state::{
 };
 use smblease::proved::lease_wire::{CreateAsk, write_create_ask};
 use smblease::proved::share_server::{Out, Server};
-use std::test::Fail;
+use smblease_std::test::Fail;
 use words::{KEY, two_files};
 
 const WANTED_AND_GIVEN: [(u32, u32); 5] = [(7, 7), (5, 5), (6, 0), (2, 0), (4, 0)];
 
 #[test]
 fn a_new_server_has_its_files_and_nothing_else() {
-    std::test::passes(|| -> Result<(), Fail> {
-        let rt = HostRuntime::host();
-        let server = two_files(rt.alloc())?;
+    passes(|| -> Result<(), Fail> {
+        let server = two_files(Global)?;
         assert_eq!(server.content(FileNo(1)).ok_or("file 1")?, b"abc".as_slice());
         assert_eq!(server.content(FileNo(2)).ok_or("file 2")?, b"".as_slice());
         assert!(server.content(FileNo(0)).is_none());
@@ -39,9 +38,8 @@ fn a_new_server_has_its_files_and_nothing_else() {
 
 #[test]
 fn a_server_has_the_rules_that_it_was_given() {
-    std::test::passes(|| -> Result<(), Fail> {
-        let rt = HostRuntime::host();
-        let alloc = rt.alloc();
+    passes(|| -> Result<(), Fail> {
+        let alloc = Global;
         let rules = Rules { order: Order::ByKey, rise: Rise::Whole };
         assert_eq!(Server::with_rules(alloc, rules, Vec::new(alloc))?.rules(), rules);
         assert_eq!(two_files(alloc)?.rules(), Rules::profile());
@@ -51,9 +49,8 @@ fn a_server_has_the_rules_that_it_was_given() {
 
 #[test]
 fn a_client_joins_once() {
-    std::test::passes(|| -> Result<(), Fail> {
-        let rt = HostRuntime::host();
-        let server = two_files(rt.alloc())?;
+    passes(|| -> Result<(), Fail> {
+        let server = two_files(Global)?;
         let (server, outs) = server.join(ClientNo(1))?;
         assert!(outs.is_empty());
         let (server, outs) = server.join(ClientNo(1))?;
@@ -66,9 +63,8 @@ fn a_client_joins_once() {
 // The example at the top of lib.rt, with counters in place of connections, a journal and a disk.
 #[test]
 fn the_example_holds() {
-    std::test::passes(|| -> Result<(), Fail> {
-        let rt = HostRuntime::host();
-        let alloc = rt.alloc();
+    passes(|| -> Result<(), Fail> {
+        let alloc = Global;
         let mut contexts = Vec::new(alloc);
         let lease = Some((LeaseKey([7; 16]), LeaseState::from_wire(7)));
         let ask = CreateAsk { lease, durable: false, reconnect: None };

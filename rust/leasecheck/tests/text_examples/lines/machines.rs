@@ -1,9 +1,8 @@
-// Made by tools/plain_rust from crates/text_examples/src/lines/machines.rt. Changes belong there.
-
 use leasecheck::proved::lease_lines::Machines;
-use std::alloc::Global;
-use std::prelude::{HostRuntime, String, format};
-use std::test::Fail;
+use smblease_std::alloc::Global;
+use smblease_std::prelude::{String, format};
+use smblease_std::test::Fail;
+use smblease_std::test::passes;
 
 // What machines answer to the lines of a text, and why they refuse lines.
 fn answers(alloc: Global, machines: Machines, lines: &[&str]) -> Result<(String, String), Fail> {
@@ -26,9 +25,8 @@ const LEASE: &str =
 
 #[test]
 fn a_client_opens_and_is_refused() {
-    std::test::passes(|| -> Result<(), Fail> {
-        let rt = HostRuntime::host();
-        let alloc = rt.alloc();
+    passes(|| -> Result<(), Fail> {
+        let alloc = Global;
         let lines = [
             "files 1",
             "client 11111111-1111-1111-1111-111111111111",
@@ -52,9 +50,8 @@ fn a_client_opens_and_is_refused() {
 
 #[test]
 fn a_server_opens_and_reads() {
-    std::test::passes(|| -> Result<(), Fail> {
-        let rt = HostRuntime::host();
-        let alloc = rt.alloc();
+    passes(|| -> Result<(), Fail> {
+        let alloc = Global;
         let lines =
             ["file 6162", "join 1", "join 1", "receive 1 create 1 r r -", "receive 1 read 1", "kept 1 1", "content 2", "file -"];
         let (told, why) = answers(alloc, Machines::server(), lines.as_slice())?;
@@ -68,9 +65,8 @@ fn a_server_opens_and_reads() {
 
 #[test]
 fn a_server_is_told_its_rules_before_all_else() {
-    std::test::passes(|| -> Result<(), Fail> {
-        let rt = HostRuntime::host();
-        let alloc = rt.alloc();
+    passes(|| -> Result<(), Fail> {
+        let alloc = Global;
         let lines = [
             "rules by-key",
             "rules by-key,whole",

@@ -1,13 +1,13 @@
-// Made by tools/plain_rust from crates/text_examples/src/wire/capture_lines.rt. Changes belong there.
+//! Captures as lines: two clients that ask for leases on a file, and what is found of them.
 
-use std::prelude::{HostRuntime, String, Vec, format};
-// Captures as lines: two clients that ask for leases on a file, and what is found of them.
 use crate::wire::KEY;
 use leasecheck::proved::capture_texts::{Capture, CaptureVerdict, ClientName, EpochFinding, Judged, LineFault, Report, Side};
 use leasecheck::proved::capture_walk::NotJudged;
 use smblease::proved::lease_state::Bytes;
-use std::alloc::Global;
-use std::test::Fail;
+use smblease_std::alloc::Global;
+use smblease_std::prelude::{String, Vec, format};
+use smblease_std::test::Fail;
+use smblease_std::test::passes;
 
 // A message with this command, as a request or a response, on the session 1 and its tree connect 7 (MS-SMB2 2.2.1.2).
 fn message(alloc: Global, command: u8, response: bool, id: u8, body: &[&[u8]]) -> Result<Vec<u8>, Fail> {
@@ -29,7 +29,7 @@ fn message_before(alloc: Global, next: u8, (command, response, id): (u8, bool, u
 
 // A frame's line.
 fn frame(alloc: Global, packet: u64, connection: u8, from: &str, acknowledged: u8, bytes: &[u8]) -> Result<String, Fail> {
-    let digits = std::ports::hex::encode(alloc, bytes)?;
+    let digits = smblease_std::ports::hex::encode(alloc, bytes)?;
     Ok(format!(in alloc;
         "frame {packet} {packet}.25 {connection} 10.0.0.{connection}:50000 10.0.0.9:445 {from} {acknowledged} {digits}"
     )?)
@@ -169,9 +169,8 @@ fn charged_packet(report: &Report) -> Option<u64> {
 // Both clients have RW at once, as the second one's READ shows.
 #[test]
 fn a_lease_beside_a_writers_is_unsafe_at_its_packet() {
-    std::test::passes(|| -> Result<(), Fail> {
-        let rt = HostRuntime::host();
-        let alloc = rt.alloc();
+    passes(|| -> Result<(), Fail> {
+        let alloc = Global;
         let mut capture = Capture::new(alloc, Side::Server);
         ask_at_once(&mut capture, alloc)?;
         let report = capture.report(alloc)?;
@@ -184,9 +183,8 @@ fn a_lease_beside_a_writers_is_unsafe_at_its_packet() {
 // Both have it at 30 at the latest, where the capture is made at their ends: the READs after that show that it was there still.
 #[test]
 fn a_client_takes_a_lease_at_its_packet() {
-    std::test::passes(|| -> Result<(), Fail> {
-        let rt = HostRuntime::host();
-        let alloc = rt.alloc();
+    passes(|| -> Result<(), Fail> {
+        let alloc = Global;
         let mut capture = Capture::new(alloc, Side::Client);
         ask(&mut capture, alloc, 11, 1)?;
         ask(&mut capture, alloc, 26, 2)?;
@@ -215,9 +213,8 @@ fn closed_late(alloc: Global, acknowledged: u8) -> Result<Report, Fail> {
 // It may have sent it before the second one had its lease; but the server granted that before it had the CLOSE.
 #[test]
 fn a_close_may_have_been_sent_before_it_came() {
-    std::test::passes(|| -> Result<(), Fail> {
-        let rt = HostRuntime::host();
-        let report = closed_late(rt.alloc(), 3)?;
+    passes(|| -> Result<(), Fail> {
+        let report = closed_late(Global, 3)?;
         assert!(matches!(decided(&report), Some(Judged::Granted(Some(moment))) if moment.packet == 25));
         Ok(())
     })
@@ -225,9 +222,8 @@ fn a_close_may_have_been_sent_before_it_came() {
 
 #[test]
 fn a_close_was_sent_after_what_its_host_acknowledged() {
-    std::test::passes(|| -> Result<(), Fail> {
-        let rt = HostRuntime::host();
-        let report = closed_late(rt.alloc(), 4)?;
+    passes(|| -> Result<(), Fail> {
+        let report = closed_late(Global, 4)?;
         assert_eq!(report.verdict(), CaptureVerdict::Unsafe);
         assert!(matches!(decided(&report), Some(Judged::Unsafe(_))));
         Ok(())
@@ -237,9 +233,8 @@ fn a_close_was_sent_after_what_its_host_acknowledged() {
 // The first client closes what it opened before the second one has a lease.
 #[test]
 fn a_lease_after_a_close_is_safe() {
-    std::test::passes(|| -> Result<(), Fail> {
-        let rt = HostRuntime::host();
-        let alloc = rt.alloc();
+    passes(|| -> Result<(), Fail> {
+        let alloc = Global;
         let mut capture = Capture::new(alloc, Side::Server);
         ask(&mut capture, alloc, 11, 1)?;
         send(&mut capture, alloc, (16, 1, 0), &close(alloc, 1)?)?;
@@ -255,9 +250,8 @@ fn a_lease_after_a_close_is_safe() {
 // An encrypted frame hides what the client of a lease does.
 #[test]
 fn a_client_with_an_encrypted_frame_is_not_judged() {
-    std::test::passes(|| -> Result<(), Fail> {
-        let rt = HostRuntime::host();
-        let alloc = rt.alloc();
+    passes(|| -> Result<(), Fail> {
+        let alloc = Global;
         let mut capture = Capture::new(alloc, Side::Server);
         ask(&mut capture, alloc, 11, 1)?;
         send(&mut capture, alloc, (16, 1, 0), b"\xfdSMB")?;
@@ -287,9 +281,8 @@ fn taken(alloc: Global, line: &[u8]) -> Result<(), LineFault> {
 
 #[test]
 fn lines_of_each_kind_are_taken() {
-    std::test::passes(|| -> Result<(), Fail> {
-        let rt = HostRuntime::host();
-        let alloc = rt.alloc();
+    passes(|| -> Result<(), Fail> {
+        let alloc = Global;
         let mut capture = Capture::new(alloc, Side::Client);
         let lines = [
             b"".as_slice(),
@@ -309,78 +302,67 @@ fn lines_of_each_kind_are_taken() {
 
 #[test]
 fn a_line_is_refused_that_is_of_no_kind() {
-    let rt = HostRuntime::host();
-    assert_eq!(taken(rt.alloc(), b"packet 1 0.5 3"), Err(LineFault::Refused));
-    assert_eq!(taken(rt.alloc(), b" gap 1 0.5 3"), Err(LineFault::Refused));
+    assert_eq!(taken(Global, b"packet 1 0.5 3"), Err(LineFault::Refused));
+    assert_eq!(taken(Global, b" gap 1 0.5 3"), Err(LineFault::Refused));
 }
 
 #[test]
 fn a_line_is_refused_that_lacks_its_connection() {
-    let rt = HostRuntime::host();
-    assert_eq!(taken(rt.alloc(), b"gap 1 0.5"), Err(LineFault::Refused));
-    assert_eq!(taken(rt.alloc(), b"gap 1 0.5 "), Err(LineFault::Refused));
+    assert_eq!(taken(Global, b"gap 1 0.5"), Err(LineFault::Refused));
+    assert_eq!(taken(Global, b"gap 1 0.5 "), Err(LineFault::Refused));
 }
 
 #[test]
 fn a_line_is_refused_whose_packet_is_no_number_of_64_bits() {
-    let rt = HostRuntime::host();
-    assert_eq!(taken(rt.alloc(), b"gap one 0.5 3"), Err(LineFault::Refused));
-    assert_eq!(taken(rt.alloc(), b"gap 18446744073709551616 0.5 3"), Err(LineFault::Refused));
+    assert_eq!(taken(Global, b"gap one 0.5 3"), Err(LineFault::Refused));
+    assert_eq!(taken(Global, b"gap 18446744073709551616 0.5 3"), Err(LineFault::Refused));
 }
 
 #[test]
 fn a_line_is_refused_whose_time_is_no_number_of_seconds() {
-    let rt = HostRuntime::host();
-    assert_eq!(taken(rt.alloc(), b"gap 1 noon 3"), Err(LineFault::Refused));
-    assert_eq!(taken(rt.alloc(), b"gap 1 .5 3"), Err(LineFault::Refused));
-    assert_eq!(taken(rt.alloc(), b"gap 1 0. 3"), Err(LineFault::Refused));
-    assert_eq!(taken(rt.alloc(), b"gap 1 0.5.5 3"), Err(LineFault::Refused));
+    assert_eq!(taken(Global, b"gap 1 noon 3"), Err(LineFault::Refused));
+    assert_eq!(taken(Global, b"gap 1 .5 3"), Err(LineFault::Refused));
+    assert_eq!(taken(Global, b"gap 1 0. 3"), Err(LineFault::Refused));
+    assert_eq!(taken(Global, b"gap 1 0.5.5 3"), Err(LineFault::Refused));
 }
 
 #[test]
 fn a_line_is_refused_whose_time_has_ten_digits_after_the_point() {
-    let rt = HostRuntime::host();
-    assert_eq!(taken(rt.alloc(), b"gap 1 0.0123456789 3"), Err(LineFault::Refused));
+    assert_eq!(taken(Global, b"gap 1 0.0123456789 3"), Err(LineFault::Refused));
 }
 
 #[test]
 fn a_frame_is_refused_that_lacks_its_bytes() {
-    let rt = HostRuntime::host();
-    assert_eq!(taken(rt.alloc(), b"frame 1 0.5 3 c s from-client 0"), Err(LineFault::Refused));
-    assert_eq!(taken(rt.alloc(), b"frame 1 0.5 3 c s from-client 0 "), Err(LineFault::Refused));
+    assert_eq!(taken(Global, b"frame 1 0.5 3 c s from-client 0"), Err(LineFault::Refused));
+    assert_eq!(taken(Global, b"frame 1 0.5 3 c s from-client 0 "), Err(LineFault::Refused));
 }
 
 #[test]
 fn a_frame_is_refused_that_lacks_an_address() {
-    let rt = HostRuntime::host();
-    assert_eq!(taken(rt.alloc(), b"frame 1 0.5 3 c  from-client 0 -"), Err(LineFault::Refused));
+    assert_eq!(taken(Global, b"frame 1 0.5 3 c  from-client 0 -"), Err(LineFault::Refused));
 }
 
 #[test]
 fn a_frame_is_refused_that_neither_side_sent() {
-    let rt = HostRuntime::host();
-    assert_eq!(taken(rt.alloc(), b"frame 1 0.5 3 c s from-router 0 -"), Err(LineFault::Refused));
+    assert_eq!(taken(Global, b"frame 1 0.5 3 c s from-router 0 -"), Err(LineFault::Refused));
 }
 
 #[test]
 fn a_frame_is_refused_whose_bytes_are_no_digits() {
-    let rt = HostRuntime::host();
-    assert_eq!(taken(rt.alloc(), b"frame 1 0.5 3 c s from-client 0 fe5"), Err(LineFault::Refused));
-    assert_eq!(taken(rt.alloc(), b"frame 1 0.5 3 c s from-client 0 fg"), Err(LineFault::Refused));
+    assert_eq!(taken(Global, b"frame 1 0.5 3 c s from-client 0 fe5"), Err(LineFault::Refused));
+    assert_eq!(taken(Global, b"frame 1 0.5 3 c s from-client 0 fg"), Err(LineFault::Refused));
 }
 
 #[test]
 fn a_line_is_refused_that_has_words_after_its_last() {
-    let rt = HostRuntime::host();
-    assert_eq!(taken(rt.alloc(), b"end 1 0.5 3 4"), Err(LineFault::Refused));
-    assert_eq!(taken(rt.alloc(), b"frame 1 0.5 3 c s from-client 0 - -"), Err(LineFault::Refused));
+    assert_eq!(taken(Global, b"end 1 0.5 3 4"), Err(LineFault::Refused));
+    assert_eq!(taken(Global, b"frame 1 0.5 3 c s from-client 0 - -"), Err(LineFault::Refused));
 }
 
 #[test]
 fn a_frame_is_refused_that_has_other_addresses_than_its_connection() {
-    std::test::passes(|| -> Result<(), Fail> {
-        let rt = HostRuntime::host();
-        let alloc = rt.alloc();
+    passes(|| -> Result<(), Fail> {
+        let alloc = Global;
         let mut capture = Capture::new(alloc, Side::Server);
         capture.take_line(FRAME)?;
         let server = b"frame 1 0.5 3 10.0.0.3:50000 10.0.0.8:445 from-server 0 fd534d42";
@@ -396,9 +378,8 @@ fn a_frame_is_refused_that_has_other_addresses_than_its_connection() {
 // What a reader sees of findings.
 #[test]
 fn findings_are_lines_of_words() {
-    std::test::passes(|| -> Result<(), Fail> {
-        let rt = HostRuntime::host();
-        let alloc = rt.alloc();
+    passes(|| -> Result<(), Fail> {
+        let alloc = Global;
         let mut capture = Capture::new(alloc, Side::Server);
         send(&mut capture, alloc, (10, 3, 0), b"\xfdSMB")?;
         ask_at_once(&mut capture, alloc)?;
@@ -417,9 +398,8 @@ fn findings_are_lines_of_words() {
 // The READ was sent after its host had acknowledged the grant at packet 15: what is missing was sent after that.
 #[test]
 fn a_client_is_not_judged_after_what_came_before_a_gap() {
-    std::test::passes(|| -> Result<(), Fail> {
-        let rt = HostRuntime::host();
-        let alloc = rt.alloc();
+    passes(|| -> Result<(), Fail> {
+        let alloc = Global;
         let mut capture = Capture::new(alloc, Side::Server);
         ask(&mut capture, alloc, 11, 1)?;
         send(&mut capture, alloc, (16, 1, 2), &read(alloc, 1)?)?;
@@ -437,9 +417,8 @@ fn a_client_is_not_judged_after_what_came_before_a_gap() {
 // What a reader sees of an epoch, and of what isn't decided.
 #[test]
 fn other_findings_are_words_too() {
-    std::test::passes(|| -> Result<(), Fail> {
-        let rt = HostRuntime::host();
-        let alloc = rt.alloc();
+    passes(|| -> Result<(), Fail> {
+        let alloc = Global;
         let client = ClientName { number: 1, address: Bytes::new(Vec::new(alloc)) };
         let finding = EpochFinding { client, moment: None, before: 3, epoch: 7 };
         let text = format!(in alloc; "{finding}")?;

@@ -1,7 +1,5 @@
-// Made by tools/plain_rust from crates/text_examples/src/wire/captures.rt. Changes belong there.
+//! What the messages of a capture say, by bytes that are laid out by hand as MS-SMB2 has them.
 
-use std::prelude::{HostRuntime, format};
-// What the messages of a capture say, by bytes that are laid out by hand as MS-SMB2 has them.
 use crate::wire::KEY;
 use leasecheck::proved::capture_wire::{
     DurableReconnectV2, DurableRequestV2, DurableResponseV2, Guid, Header, LeaseV2, MessageFault, Smb2FileId, TreeOrAsync,
@@ -9,8 +7,10 @@ use leasecheck::proved::capture_wire::{
 };
 use smblease::proved::lease_state::{LeaseKey, LeaseState};
 use smblease::proved::lease_wire::Direction;
-use std::alloc::{AllocError, Global};
-use std::test::Fail;
+use smblease_std::alloc::{AllocError, Global};
+use smblease_std::prelude::format;
+use smblease_std::test::Fail;
+use smblease_std::test::passes;
 
 const GUID: Guid = Guid(*b"guid of a create");
 
@@ -85,15 +85,14 @@ fn headers_are_read() {
 
 #[test]
 fn bytes_without_a_header_are_refused() {
-    std::test::passes(|| -> Result<(), Fail> {
-        let rt = HostRuntime::host();
+    passes(|| -> Result<(), Fail> {
         let mut bytes = *HEADER;
         assert_eq!(read_header(&bytes[..63]), Err(MessageFault::Short));
         bytes[4] = 65;
         assert_eq!(read_header(&bytes), Err(MessageFault::WrongSize));
         bytes[0] = 0xfd;
         assert_eq!(read_header(&bytes), Err(MessageFault::WrongProtocol));
-        let text = format!(in rt.alloc(); "{}", MessageFault::WrongProtocol)?;
+        let text = format!(in Global; "{}", MessageFault::WrongProtocol)?;
         assert_eq!(text.as_str(), "no SMB2 message");
         Ok(())
     })
@@ -113,9 +112,8 @@ fn says(alloc: Global, fault: MessageFault, words: &str) -> Result<bool, AllocEr
 
 #[test]
 fn faults_say_what_is_wrong() {
-    std::test::passes(|| -> Result<(), Fail> {
-        let rt = HostRuntime::host();
-        let alloc = rt.alloc();
+    passes(|| -> Result<(), Fail> {
+        let alloc = Global;
         assert!(says(alloc, MessageFault::Short, "too few bytes")?);
         assert!(says(alloc, MessageFault::WrongProtocol, "no SMB2 message")?);
         assert!(says(alloc, MessageFault::WrongSize, "the StructureSize of another message")?);

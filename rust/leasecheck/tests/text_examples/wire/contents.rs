@@ -1,7 +1,5 @@
-// Made by tools/plain_rust from crates/text_examples/src/wire/contents.rt. Changes belong there.
+//! Whole messages of a capture, by bytes that are laid out by hand as MS-SMB2 has them.
 
-use std::prelude::{HostRuntime, Vec};
-// Whole messages of a capture, by bytes that are laid out by hand as MS-SMB2 has them.
 use crate::wire::KEY;
 use leasecheck::proved::capture_wire::{
     CloseRequest, Command, Content, CreateContexts, LeaseContext, Message, MessageFault, Request, Response, Smb2FileId,
@@ -9,8 +7,10 @@ use leasecheck::proved::capture_wire::{
 };
 use smblease::proved::lease_state::LeaseState;
 use smblease::proved::lease_wire::{Acknowledgment, BreakResponse, Direction, Notification, WireFault};
-use std::alloc::Global;
-use std::test::Fail;
+use smblease_std::alloc::Global;
+use smblease_std::prelude::Vec;
+use smblease_std::test::Fail;
+use smblease_std::test::passes;
 
 const FILE_ID: Smb2FileId = Smb2FileId { persistent: 5, volatile: 6 };
 
@@ -35,20 +35,19 @@ fn content(bytes: &[u8]) -> Result<Content<'_>, Unreadable> {
 
 #[test]
 fn requests_are_read_by_their_command() {
-    std::test::passes(|| -> Result<(), Fail> {
-        let rt = HostRuntime::host();
+    passes(|| -> Result<(), Fail> {
         // StructureSize 24, Flags, FileId
         let body = b"\x18\0\0\0\0\0\0\0\x05\0\0\0\0\0\0\0\x06\0\0\0\0\0\0\0";
-        let close = message(rt.alloc(), 6, 0, ASKED, body)?;
+        let close = message(Global, 6, 0, ASKED, body)?;
         let closes = Request::Close(CloseRequest { file_id: FILE_ID });
         assert_eq!(content(&close), Ok(Content::Request(closes)));
-        let mut flush = message(rt.alloc(), 7, 0, ASKED, body)?;
+        let mut flush = message(Global, 7, 0, ASKED, body)?;
         assert_eq!(content(&flush), Ok(Content::Request(Request::OnOpen(FILE_ID))));
         flush.truncate(87);
         assert_eq!(content(&flush), Err(Unreadable::Message(MessageFault::Short)));
-        let echo = message(rt.alloc(), 13, 0, ASKED, b"\x04\0\0\0")?;
+        let echo = message(Global, 13, 0, ASKED, b"\x04\0\0\0")?;
         assert_eq!(content(&echo), Ok(Content::Request(Request::Other)));
-        let answer = message(rt.alloc(), 6, 1, ASKED, body)?;
+        let answer = message(Global, 6, 1, ASKED, body)?;
         assert_eq!(content(&answer), Ok(Content::Response(Response::Other)));
         assert_eq!(Command::of(18), Command::OplockBreak);
         Ok(())
@@ -57,20 +56,19 @@ fn requests_are_read_by_their_command() {
 
 #[test]
 fn breaks_are_read() {
-    std::test::passes(|| -> Result<(), Fail> {
-        let rt = HostRuntime::host();
+    passes(|| -> Result<(), Fail> {
         // StructureSize 36, Reserved, Flags, the key, R, LeaseDuration
         let body = b"\x24\0\0\0\0\0\0\0\0\x01\x02\x03\x04\x05\x06\x07\x08\x09\x0a\x0b\x0c\x0d\x0e\x0f\
 \x01\0\0\0\0\0\0\0\0\0\0\0";
         let (key, state) = (KEY, LeaseState::from_wire(1));
-        let given = message(rt.alloc(), 18, 0, ASKED, body)?;
+        let given = message(Global, 18, 0, ASKED, body)?;
         let acknowledges = Request::Acknowledge(Acknowledgment { key, state });
         assert_eq!(content(&given), Ok(Content::Request(acknowledges)));
-        let accepted = message(rt.alloc(), 18, 1, ASKED, body)?;
+        let accepted = message(Global, 18, 1, ASKED, body)?;
         let accepts = Response::Accepted(BreakResponse { key, state });
         assert_eq!(content(&accepted), Ok(Content::Response(accepts)));
         // an acknowledgment of an oplock break
-        let oplock = message(rt.alloc(), 18, 0, ASKED, b"\x18\0\x01\0\0\0\0\0aaaaaaaabbbbbbbb")?;
+        let oplock = message(Global, 18, 0, ASKED, b"\x18\0\x01\0\0\0\0\0aaaaaaaabbbbbbbb")?;
         assert!(matches!(content(&oplock), Ok(Content::Request(Request::Other))));
         Ok(())
     })
@@ -78,16 +76,15 @@ fn breaks_are_read() {
 
 #[test]
 fn a_notification_answers_no_request() {
-    std::test::passes(|| -> Result<(), Fail> {
-        let rt = HostRuntime::host();
+    passes(|| -> Result<(), Fail> {
         let notification =
             Notification { ack_required: true, key: KEY, current: LeaseState::from_wire(7), new: LeaseState::from_wire(3) };
         let mut body = notification.encode();
         body[2] = 3;
         body[3] = 4;
-        let asked = message(rt.alloc(), 18, 1, ASKED, &body)?;
+        let asked = message(Global, 18, 1, ASKED, &body)?;
         assert!(matches!(content(&asked), Ok(Content::Response(Response::Other))));
-        let bytes = message(rt.alloc(), 18, 1, UNASKED, &body)?;
+        let bytes = message(Global, 18, 1, UNASKED, &body)?;
         let breaks = Response::Break(notification, 0x0403);
         assert_eq!(content(&bytes), Ok(Content::Response(breaks)));
         Ok(())
@@ -97,9 +94,8 @@ fn a_notification_answers_no_request() {
 // StructureSize 57, and what this test doesn't look at; no name, and 80 bytes of contexts at 120: RqLs of version 2.
 #[test]
 fn contexts_of_version_2_are_found() {
-    std::test::passes(|| -> Result<(), Fail> {
-        let rt = HostRuntime::host();
-        let mut body = Vec::from_slice(rt.alloc(), b"\x39\0")?;
+    passes(|| -> Result<(), Fail> {
+        let mut body = Vec::from_slice(Global, b"\x39\0")?;
         body.extend_from_slice(&[0; 46])?;
         body.extend_from_slice(b"\x78\0\0\0\x50\0\0\0")?;
         body.extend_from_slice(
@@ -107,7 +103,7 @@ fn contexts_of_version_2_are_found() {
 \0\x01\x02\x03\x04\x05\x06\x07\x08\x09\x0a\x0b\x0c\x0d\x0e\x0f\x07\0\0\0\0\0\0\0\0\0\0\0\0\0\0\0\
 pppppppppppppppp\x02\x01\0\0\0\0\0\0",
         )?;
-        let mut bytes = message(rt.alloc(), 5, 0, ASKED, &body)?;
+        let mut bytes = message(Global, 5, 0, ASKED, &body)?;
         let lease = LeaseContext { key: KEY, state: LeaseState::from_wire(7), breaking: false, epoch: Some(0x0102) };
         let wanted = CreateContexts { lease: Some(lease), durable: false, reconnect: false, snapshot: false };
         assert_eq!(read_create_contexts(Direction::Request, &bytes), Ok(wanted));

@@ -1,14 +1,14 @@
-// Made by tools/plain_rust from crates/text_examples/src/wire/messages.rt. Changes belong there.
+//! Whole SMB2 messages: a header, and after it a body.
 
-use std::prelude::{HostRuntime, Vec};
-// Whole SMB2 messages: a header, and after it a body.
 use crate::wire::{ASK, KEY};
 use smblease::proved::lease_state::LeaseState;
 use smblease::proved::lease_wire::{
     Direction, HEADER_SIZE, Notification, WireFault, begins_message, contexts_of_create, first_message,
 };
-use std::alloc::Global;
-use std::test::Fail;
+use smblease_std::alloc::Global;
+use smblease_std::prelude::Vec;
+use smblease_std::test::Fail;
+use smblease_std::test::passes;
 
 // A header with this NextCommand.
 fn header(next: u8) -> [u8; 64] {
@@ -31,12 +31,11 @@ fn request(alloc: Global, offset: u8) -> Result<Vec<u8>, Fail> {
 
 #[test]
 fn contexts_stand_where_a_request_has_them() {
-    std::test::passes(|| -> Result<(), Fail> {
-        let rt = HostRuntime::host();
-        let message = request(rt.alloc(), 136)?;
+    passes(|| -> Result<(), Fail> {
+        let message = request(Global, 136)?;
         assert!(begins_message(message.as_slice()));
         assert!(!begins_message(&message[1..]));
-        let mut places = Vec::new(rt.alloc());
+        let mut places = Vec::new(Global);
         for item in contexts_of_create(Direction::Request, message.as_slice())? {
             places.push(item?.place)?;
         }
@@ -47,9 +46,8 @@ fn contexts_stand_where_a_request_has_them() {
 
 #[test]
 fn contexts_within_the_fixed_part_are_refused() {
-    std::test::passes(|| -> Result<(), Fail> {
-        let rt = HostRuntime::host();
-        let message = request(rt.alloc(), 119)?;
+    passes(|| -> Result<(), Fail> {
+        let message = request(Global, 119)?;
         let refused = contexts_of_create(Direction::Request, message.as_slice()).err();
         assert_eq!(refused, Some(WireFault::BadData(119)));
         let other = contexts_of_create(Direction::Reply, message.as_slice()).err();
@@ -63,11 +61,10 @@ fn contexts_within_the_fixed_part_are_refused() {
 
 #[test]
 fn a_message_ends_where_the_next_one_begins() {
-    std::test::passes(|| -> Result<(), Fail> {
-        let rt = HostRuntime::host();
+    passes(|| -> Result<(), Fail> {
         let notification =
             Notification { ack_required: true, key: KEY, current: LeaseState::from_wire(7), new: LeaseState::from_wire(3) };
-        let mut bytes = Vec::from_slice(rt.alloc(), &header(112))?;
+        let mut bytes = Vec::from_slice(Global, &header(112))?;
         bytes.extend_from_slice(&notification.encode())?;
         bytes.extend_from_slice(&[0; 4])?;
         bytes.extend_from_slice(&header(0))?;

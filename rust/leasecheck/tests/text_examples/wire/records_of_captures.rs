@@ -1,15 +1,15 @@
-// Made by tools/plain_rust from crates/text_examples/src/wire/records_of_captures.rt. Changes belong there.
+//! Records of what is found in a capture, of messages that are laid out by hand.
 
-use std::prelude::{HostRuntime, String, format};
-// Records of what is found in a capture, of messages that are laid out by hand.
 use crate::wire::capture_lines::{answer, ask, ask_at_once, close, read_and_echo, send, use_open};
 use leasecheck::proved::capture_texts::{
     Capture, Judged, MessageName, MessagePart, RecordLine, Report, Side, notes_of, record_of,
 };
 use leasecheck::proved::capture_wire::Command;
 use leasecheck::proved::lease_texts::push_fact;
-use std::alloc::Global;
-use std::test::Fail;
+use smblease_std::alloc::Global;
+use smblease_std::prelude::{String, format};
+use smblease_std::test::Fail;
+use smblease_std::test::passes;
 
 fn text_of(alloc: Global, lines: &[RecordLine]) -> Result<String, Fail> {
     let mut text = String::new(alloc);
@@ -52,9 +52,8 @@ believes 1 1 RW
 
 #[test]
 fn the_record_of_an_unsafe_file_leads_to_the_clash() {
-    std::test::passes(|| -> Result<(), Fail> {
-        let rt = HostRuntime::host();
-        let alloc = rt.alloc();
+    passes(|| -> Result<(), Fail> {
+        let alloc = Global;
         let record = record_of(alloc, &unsafe_report(alloc)?)?;
         let text = text_of(alloc, record.as_slice())?;
         let believed = "# packet 26 at 26.25, READ request\nbelieves 2 1 RW\n";
@@ -67,9 +66,8 @@ fn the_record_of_an_unsafe_file_leads_to_the_clash() {
 // The CLOSE, of which it isn't known when it was sent, may have been sent by 16.
 #[test]
 fn the_record_of_a_safe_file_has_a_lease_end_before_the_next() {
-    std::test::passes(|| -> Result<(), Fail> {
-        let rt = HostRuntime::host();
-        let alloc = rt.alloc();
+    passes(|| -> Result<(), Fail> {
+        let alloc = Global;
         let record = record_of(alloc, &safe_report(alloc)?)?;
         let text = text_of(alloc, record.as_slice())?;
         let ended = "# packet 16 at 16.25, READ request\nbelieves 1 1 none\n";
@@ -94,9 +92,8 @@ fn compound_report(alloc: Global) -> Result<Report, Fail> {
 
 #[test]
 fn all_messages_of_a_packet_are_named() {
-    std::test::passes(|| -> Result<(), Fail> {
-        let rt = HostRuntime::host();
-        let alloc = rt.alloc();
+    passes(|| -> Result<(), Fail> {
+        let alloc = Global;
         let report = compound_report(alloc)?;
         let Some(Judged::Unsafe(Some(moment))) = report.files.first().map(|file| &file.judged) else {
             return Err(Fail::new("the file is unsafe"));
@@ -114,9 +111,8 @@ fn all_messages_of_a_packet_are_named() {
 
 #[test]
 fn notes_say_what_was_found() {
-    std::test::passes(|| -> Result<(), Fail> {
-        let rt = HostRuntime::host();
-        let alloc = rt.alloc();
+    passes(|| -> Result<(), Fail> {
+        let alloc = Global;
         let notes = notes_of(alloc, &unsafe_report(alloc)?)?;
         let text = text_of(alloc, notes.as_slice())?;
         let wanted = r"# file 10.0.0.9:445 \s\f: unsafe, packet 26 at 26.25, 10.0.0.1:50000, 10.0.0.2:50000

@@ -1,15 +1,15 @@
-// Made by tools/plain_rust from crates/text_examples/src/wire/requests.rt. Changes belong there.
+//! The requests and responses of a capture, by bytes that are laid out by hand as MS-SMB2 has them.
 
-use std::prelude::{HostRuntime, Vec};
-// The requests and responses of a capture, by bytes that are laid out by hand as MS-SMB2 has them.
 use leasecheck::proved::capture_wire::{
     CloseRequest, CreateRequest, CreateResponse, Guid, MessageFault, NegotiateRequest, NegotiateResponse, ReadRequest, Rename,
     SessionSetupRequest, SetInfoRequest, Smb2FileId, TreeConnectRequest, WriteRequest, read_close_request, read_create_request,
     read_create_response, read_disposition, read_header, read_negotiate_request, read_negotiate_response, read_read_request,
     read_rename, read_session_setup_request, read_set_info_request, read_tree_connect_request, read_write_request,
 };
-use std::alloc::Global;
-use std::test::Fail;
+use smblease_std::alloc::Global;
+use smblease_std::prelude::Vec;
+use smblease_std::test::Fail;
+use smblease_std::test::passes;
 
 const FILE_ID: Smb2FileId = Smb2FileId { persistent: 5, volatile: 6 };
 
@@ -36,11 +36,9 @@ fn the_example_of_captures_holds() {
 
 #[test]
 fn connections_are_read() {
-    std::test::passes(|| -> Result<(), Fail> {
-        let rt = HostRuntime::host();
+    passes(|| -> Result<(), Fail> {
         // StructureSize 36, two dialects, SecurityMode, Capabilities, ClientGuid, ClientStartTime, 2.0.2 and 2.1
-        let mut request =
-            message(rt.alloc(), b"\x24\0\x02\0\x01\0\0\0\x7f\0\0\0guid of a client\0\0\0\0\0\0\0\0\x02\x02\x10\x02")?;
+        let mut request = message(Global, b"\x24\0\x02\0\x01\0\0\0\x7f\0\0\0guid of a client\0\0\0\0\0\0\0\0\x02\x02\x10\x02")?;
         let negotiate = NegotiateRequest { client_guid: Guid(*b"guid of a client"), dialects: b"\x02\x02\x10\x02" };
         assert_eq!(read_negotiate_request(&request), Ok(negotiate));
         assert!(negotiate.offers(0x0210));
@@ -50,7 +48,7 @@ fn connections_are_read() {
 
         // StructureSize 65, SecurityMode, DialectRevision 2.1, ServerGuid; Capabilities and sizes, times, the buffer
         let response = message(
-            rt.alloc(),
+            Global,
             b"\x41\0\x01\0\x10\x02\0\0guid of a serverccccttttrrrrwwww\
 SYSTEM__START___\x80\0\0\0\0\0\0\0",
         )?;
@@ -63,15 +61,14 @@ SYSTEM__START___\x80\0\0\0\0\0\0\0",
 
 #[test]
 fn sessions_and_trees_are_read() {
-    std::test::passes(|| -> Result<(), Fail> {
-        let rt = HostRuntime::host();
+    passes(|| -> Result<(), Fail> {
         // StructureSize 25, BINDING, SecurityMode, Capabilities, Channel, the security buffer, PreviousSessionId
-        let request = message(rt.alloc(), b"\x19\0\x01\x02\x01\0\0\0\0\0\0\0\x58\0\0\0\x09\0\0\0\0\0\0\x01")?;
+        let request = message(Global, b"\x19\0\x01\x02\x01\0\0\0\0\0\0\0\x58\0\0\0\x09\0\0\0\0\0\0\x01")?;
         let session = SessionSetupRequest { binding: true, previous_session_id: 0x0100_0000_0000_0009 };
         assert_eq!(read_session_setup_request(&request), Ok(session));
 
         // StructureSize 9, Flags, PathOffset 74, PathLength 4, two bytes, the path
-        let mut request = message(rt.alloc(), b"\x09\0\0\0\x4a\0\x04\0--\\\0s\0")?;
+        let mut request = message(Global, b"\x09\0\0\0\x4a\0\x04\0--\\\0s\0")?;
         let tree = TreeConnectRequest { path: b"\\\0s\0" };
         assert_eq!(read_tree_connect_request(&request), Ok(tree));
         request.truncate(77);
@@ -83,12 +80,11 @@ fn sessions_and_trees_are_read() {
 
 #[test]
 fn creates_are_read() {
-    std::test::passes(|| -> Result<(), Fail> {
-        let rt = HostRuntime::host();
+    passes(|| -> Result<(), Fail> {
         // StructureSize 57, SecurityFlags, a lease, ImpersonationLevel, SmbCreateFlags, Reserved; DesiredAccess, FileAttributes,
         // ShareAccess, CreateDisposition, CreateOptions; NameOffset 120, NameLength 4, no contexts, the name
         let request = message(
-            rt.alloc(),
+            Global,
             b"\x39\0\0\xff\x02\0\0\0ffffffffrrrrrrrr\x89\0\x12\0\x80\0\0\0\x07\0\0\0\
 \x03\0\0\0\x60\0\0\0\x78\0\x04\0\0\0\0\0\0\0\0\0n\0e\0",
         )?;
@@ -105,7 +101,7 @@ fn creates_are_read() {
 
         // StructureSize 89, a lease, Flags, FILE_CREATED; four times, two sizes, FileAttributes, Reserved2; FileId, no contexts
         let response = message(
-            rt.alloc(),
+            Global,
             b"\x59\0\xff\0\x02\0\0\0CREATED_ACCESSEDWRITTEN_CHANGED_allocateend_file\x20\0\0\0\0\0\0\0\
 \x05\0\0\0\0\0\0\0\x06\0\0\0\0\0\0\0\0\0\0\0\0\0\0\0",
         )?;
@@ -124,11 +120,10 @@ fn creates_are_read() {
 
 #[test]
 fn reads_writes_and_closes_are_read() {
-    std::test::passes(|| -> Result<(), Fail> {
-        let rt = HostRuntime::host();
+    passes(|| -> Result<(), Fail> {
         // StructureSize 49, Padding, Flags, Length 0x200, Offset 0x10, FileId, MinimumCount and others
         let mut request = message(
-            rt.alloc(),
+            Global,
             b"\x31\0\x50\0\0\x02\0\0\x10\0\0\0\0\0\0\0\x05\0\0\0\0\0\0\0\x06\0\0\0\0\0\0\0\
 mmmmccccrrrriill",
         )?;
@@ -140,7 +135,7 @@ mmmmccccrrrriill",
         assert_eq!(read_write_request(&request), Err(MessageFault::Short));
 
         // StructureSize 24, Flags, Reserved, FileId
-        let request = message(rt.alloc(), b"\x18\0\x01\0rrrr\x05\0\0\0\0\0\0\0\x06\0\0\0\0\0\0\0")?;
+        let request = message(Global, b"\x18\0\x01\0rrrr\x05\0\0\0\0\0\0\0\x06\0\0\0\0\0\0\0")?;
         assert_eq!(read_close_request(&request), Ok(CloseRequest { file_id: FILE_ID }));
         Ok(())
     })
@@ -148,12 +143,11 @@ mmmmccccrrrriill",
 
 #[test]
 fn renames_are_read() {
-    std::test::passes(|| -> Result<(), Fail> {
-        let rt = HostRuntime::host();
+    passes(|| -> Result<(), Fail> {
         // StructureSize 33, a file's FileRenameInformation, BufferLength 22, BufferOffset 96, Reserved, AdditionalInformation,
         // FileId; ReplaceIfExists, Reserved, RootDirectory, FileNameLength 2, FileName
         let request = message(
-            rt.alloc(),
+            Global,
             b"\x21\0\x01\x0a\x16\0\0\0\x60\0rraaaa\x05\0\0\0\0\0\0\0\x06\0\0\0\0\0\0\0\
 \x01rrrrrrr\0\0\0\0\0\0\0\0\x02\0\0\0m\0",
         )?;

@@ -1,14 +1,13 @@
-// Made by tools/plain_rust from crates/text_examples/src/wire/tables.rt. Changes belong there.
+//! What the server holds for two clients, by the notes of its messages: where it grants the second one a lease beside the first
+//! one's, and what may have taken that away before. Whatever they took, it is charged where they clash.
 
-use std::prelude::HostRuntime;
-// What the server holds for two clients, by the notes of its messages: where it grants the second one a lease beside the first
-// one's, and what may have taken that away before. Whatever they took, it is charged where they clash.
 use crate::wire::walks::{answer, ask, break_to, grant, keeps, key, open_name, seen, use_open};
 use leasecheck::proved::capture_judge::{Charge, Level, Placing, judge_placing};
 use leasecheck::proved::capture_walk::{BreakNote, Note, Walk, chains_on, tables_on};
 use smblease::proved::lease_state::Memory;
-use std::alloc::Global;
-use std::test::Fail;
+use smblease_std::alloc::Global;
+use smblease_std::test::Fail;
+use smblease_std::test::passes;
 
 // The first client has a lease on the file 5, and the second one asks for another.
 fn beside(alloc: Global, level: Level) -> Result<Walk, Memory> {
@@ -26,9 +25,8 @@ fn judged(alloc: Global, walk: &Walk) -> Result<Placing, Memory> {
 // The second client isn't shown to have taken its lease, but the server granted that by 24, and the first one's is there still.
 #[test]
 fn a_grant_beside_a_lease_is_the_servers() {
-    std::test::passes(|| -> Result<(), Fail> {
-        let rt = HostRuntime::host();
-        let alloc = rt.alloc();
+    passes(|| -> Result<(), Fail> {
+        let alloc = Global;
         let mut walk = beside(alloc, Level::Writes)?;
         grant(&mut walk, 12, 2, Level::Something)?;
         use_open(&mut walk, 13, 1)?;
@@ -42,9 +40,8 @@ fn a_grant_beside_a_lease_is_the_servers() {
 // The server may have lost what the first client doesn't use any more by the time of the second one's grant.
 #[test]
 fn a_lease_that_is_not_used_any_more_may_be_lost() {
-    std::test::passes(|| -> Result<(), Fail> {
-        let rt = HostRuntime::host();
-        let alloc = rt.alloc();
+    passes(|| -> Result<(), Fail> {
+        let alloc = Global;
         let mut walk = beside(alloc, Level::Writes)?;
         grant(&mut walk, 12, 2, Level::Something)?;
         assert!(matches!(judged(alloc, &walk)?, Placing::Clean(_)));
@@ -55,9 +52,8 @@ fn a_lease_that_is_not_used_any_more_may_be_lost() {
 // The first client acknowledges a break. The server may grant the other lease before it answers that, and not before it has it.
 #[test]
 fn an_acknowledgment_makes_room() {
-    std::test::passes(|| -> Result<(), Fail> {
-        let rt = HostRuntime::host();
-        let alloc = rt.alloc();
+    passes(|| -> Result<(), Fail> {
+        let alloc = Global;
         let mut walk = beside(alloc, Level::Writes)?;
         walk.take(&seen(12, 1, break_to(Level::Something, 0)))?;
         walk.take(&seen(13, 1, keeps(13, Level::Something)))?;
@@ -71,9 +67,8 @@ fn an_acknowledgment_makes_room() {
 
 #[test]
 fn a_grant_before_the_acknowledgment_is_too_early() {
-    std::test::passes(|| -> Result<(), Fail> {
-        let rt = HostRuntime::host();
-        let alloc = rt.alloc();
+    passes(|| -> Result<(), Fail> {
+        let alloc = Global;
         let mut walk = beside(alloc, Level::Writes)?;
         walk.take(&seen(12, 1, break_to(Level::Something, 0)))?;
         grant(&mut walk, 13, 2, Level::Something)?;
@@ -87,9 +82,8 @@ fn a_grant_before_the_acknowledgment_is_too_early() {
 // Nobody acknowledges the break: when its timer runs out the server may take all of the lease away.
 #[test]
 fn a_break_that_is_not_acknowledged_may_time_out() {
-    std::test::passes(|| -> Result<(), Fail> {
-        let rt = HostRuntime::host();
-        let alloc = rt.alloc();
+    passes(|| -> Result<(), Fail> {
+        let alloc = Global;
         let mut walk = beside(alloc, Level::Writes)?;
         walk.take(&seen(12, 1, break_to(Level::Something, 0)))?;
         grant(&mut walk, 13, 2, Level::Writes)?;
@@ -102,9 +96,8 @@ fn a_break_that_is_not_acknowledged_may_time_out() {
 // A lease for reads alone goes with its break, by the time at which that is sent.
 #[test]
 fn a_break_of_reads_alone_makes_room() {
-    std::test::passes(|| -> Result<(), Fail> {
-        let rt = HostRuntime::host();
-        let alloc = rt.alloc();
+    passes(|| -> Result<(), Fail> {
+        let alloc = Global;
         let mut walk = beside(alloc, Level::Something)?;
         let taken_away = BreakNote { key: key(1), level: Level::Nothing, acknowledged: false, epoch: 0 };
         walk.take(&seen(12, 1, Note::Break(taken_away)))?;
@@ -117,9 +110,8 @@ fn a_break_of_reads_alone_makes_room() {
 
 #[test]
 fn a_lease_for_reads_stays_without_a_break() {
-    std::test::passes(|| -> Result<(), Fail> {
-        let rt = HostRuntime::host();
-        let alloc = rt.alloc();
+    passes(|| -> Result<(), Fail> {
+        let alloc = Global;
         let mut walk = beside(alloc, Level::Something)?;
         grant(&mut walk, 12, 2, Level::Writes)?;
         use_open(&mut walk, 13, 1)?;
@@ -131,9 +123,8 @@ fn a_lease_for_reads_stays_without_a_break() {
 // The last open is closed between its CLOSE and the answer.
 #[test]
 fn a_close_makes_room() {
-    std::test::passes(|| -> Result<(), Fail> {
-        let rt = HostRuntime::host();
-        let alloc = rt.alloc();
+    passes(|| -> Result<(), Fail> {
+        let alloc = Global;
         let mut walk = beside(alloc, Level::Writes)?;
         walk.take(&seen(12, 1, Note::Close(open_name(12, 1))))?;
         grant(&mut walk, 13, 2, Level::Writes)?;
@@ -145,9 +136,8 @@ fn a_close_makes_room() {
 
 #[test]
 fn a_grant_before_the_close_is_too_early() {
-    std::test::passes(|| -> Result<(), Fail> {
-        let rt = HostRuntime::host();
-        let alloc = rt.alloc();
+    passes(|| -> Result<(), Fail> {
+        let alloc = Global;
         let mut walk = beside(alloc, Level::Writes)?;
         grant(&mut walk, 12, 2, Level::Writes)?;
         walk.take(&seen(13, 1, Note::Close(open_name(13, 1))))?;
@@ -160,9 +150,8 @@ fn a_grant_before_the_close_is_too_early() {
 // What is open may end with its connection, from then on.
 #[test]
 fn the_end_of_a_connection_makes_room() {
-    std::test::passes(|| -> Result<(), Fail> {
-        let rt = HostRuntime::host();
-        let alloc = rt.alloc();
+    passes(|| -> Result<(), Fail> {
+        let alloc = Global;
         let mut walk = beside(alloc, Level::Writes)?;
         use_open(&mut walk, 12, 1)?;
         walk.take(&seen(14, 1, Note::End))?;

@@ -1,7 +1,5 @@
-// Made by tools/plain_rust from crates/text_examples/src/wire/walks.rt. Changes belong there.
+//! Captures of two clients, as the notes of their messages, and what they show of leases.
 
-use std::prelude::{HostRuntime, Vec};
-// Captures of two clients, as the notes of their messages, and what they show of leases.
 use crate::wire::KEY;
 use leasecheck::proved::capture_judge::{Change, Charge, Level, Placing, judge_placing};
 use leasecheck::proved::capture_walk::{
@@ -11,8 +9,10 @@ use leasecheck::proved::capture_walk::{
 use leasecheck::proved::capture_wire::{Guid, Smb2FileId};
 use smblease::proved::lease_state::{LeaseKey, LeaseState, Memory};
 use smblease::proved::lease_wire::WireFault;
-use std::alloc::Global;
-use std::test::Fail;
+use smblease_std::alloc::Global;
+use smblease_std::prelude::Vec;
+use smblease_std::test::Fail;
+use smblease_std::test::passes;
 
 // The client at each end of a connection has a key and a session of its own, both by the connection's number.
 pub(super) fn key(connection: u8) -> LeaseKey {
@@ -104,9 +104,8 @@ fn only_chain(alloc: Global, walk: &Walk, file: u64) -> Result<Option<Vec<Change
 // both ask after that.
 #[test]
 fn a_lease_beside_a_writers_is_unsafe() {
-    std::test::passes(|| -> Result<(), Fail> {
-        let rt = HostRuntime::host();
-        let alloc = rt.alloc();
+    passes(|| -> Result<(), Fail> {
+        let alloc = Global;
         let mut walk = Walk::new(alloc);
         ask(&mut walk, 1, 1, b"f\0")?;
         grant(&mut walk, 5, 1, Level::Writes)?;
@@ -128,9 +127,8 @@ fn a_lease_beside_a_writers_is_unsafe() {
 // The same of two files: neither client has a lease on the other's.
 #[test]
 fn names_tell_files_apart() {
-    std::test::passes(|| -> Result<(), Fail> {
-        let rt = HostRuntime::host();
-        let alloc = rt.alloc();
+    passes(|| -> Result<(), Fail> {
+        let alloc = Global;
         let mut walk = Walk::new(alloc);
         ask(&mut walk, 1, 1, b"f\0")?;
         grant(&mut walk, 5, 1, Level::Writes)?;
@@ -144,9 +142,8 @@ fn names_tell_files_apart() {
 // The writer's lease is broken to R, and the break is acknowledged, before the reader gets its lease.
 #[test]
 fn a_break_makes_room() {
-    std::test::passes(|| -> Result<(), Fail> {
-        let rt = HostRuntime::host();
-        let alloc = rt.alloc();
+    passes(|| -> Result<(), Fail> {
+        let alloc = Global;
         let mut walk = Walk::new(alloc);
         ask(&mut walk, 1, 1, b"f\0")?;
         grant(&mut walk, 5, 1, Level::Writes)?;
@@ -167,9 +164,8 @@ fn a_break_makes_room() {
 // The grant counts from 10 on, and up to the use at 11; the CLOSE at 15 ends it, and shows that the open was there until then.
 #[test]
 fn the_last_close_ends_a_lease() {
-    std::test::passes(|| -> Result<(), Fail> {
-        let rt = HostRuntime::host();
-        let alloc = rt.alloc();
+    passes(|| -> Result<(), Fail> {
+        let alloc = Global;
         let mut walk = Walk::new(alloc);
         ask(&mut walk, 1, 1, b"f\0")?;
         grant(&mut walk, 5, 1, Level::Writes)?;
@@ -186,9 +182,8 @@ fn the_last_close_ends_a_lease() {
 // A break that nobody acknowledges: the lease may be lost since the last request that the server did before it, at 11.
 #[test]
 fn a_break_that_is_not_acknowledged_is_a_doubt() {
-    std::test::passes(|| -> Result<(), Fail> {
-        let rt = HostRuntime::host();
-        let alloc = rt.alloc();
+    passes(|| -> Result<(), Fail> {
+        let alloc = Global;
         let mut walk = Walk::new(alloc);
         ask(&mut walk, 1, 1, b"f\0")?;
         grant(&mut walk, 5, 1, Level::Writes)?;
@@ -205,9 +200,8 @@ fn a_break_that_is_not_acknowledged_is_a_doubt() {
 // What a gap may hide isn't held against anybody, and what a name leads to after a rename isn't known.
 #[test]
 fn gaps_and_renames_are_not_judged() {
-    std::test::passes(|| -> Result<(), Fail> {
-        let rt = HostRuntime::host();
-        let alloc = rt.alloc();
+    passes(|| -> Result<(), Fail> {
+        let alloc = Global;
         let mut walk = Walk::new(alloc);
         ask(&mut walk, 1, 1, b"f\0")?;
         grant(&mut walk, 5, 1, Level::Writes)?;
@@ -228,9 +222,8 @@ fn gaps_and_renames_are_not_judged() {
 // A frame of a CREATE and a related CLOSE, by the FileId that means the one before it: what they open is closed.
 #[test]
 fn compounds_go_by_the_ids_of_the_first() {
-    std::test::passes(|| -> Result<(), Fail> {
-        let rt = HostRuntime::host();
-        let alloc = rt.alloc();
+    passes(|| -> Result<(), Fail> {
+        let alloc = Global;
         let mut bytes = Vec::from_slice(alloc, b"\xfeSMB\x40\0\0\0\0\0\0\0\x05\0\0\0\0\0\0\0\x78\0\0\0")?;
         bytes.extend_from_slice(b"\0\0\0\0\0\0\0\0\0\0\0\0\x07\0\0\0\x03\0\0\0\0\0\0\0")?;
         bytes.extend_from_slice(&[0; 16])?;
@@ -260,9 +253,8 @@ fn compounds_go_by_the_ids_of_the_first() {
 // The same, as they are taken, and where the frame is cut off.
 #[test]
 fn frames_are_taken_whole() {
-    std::test::passes(|| -> Result<(), Fail> {
-        let rt = HostRuntime::host();
-        let alloc = rt.alloc();
+    passes(|| -> Result<(), Fail> {
+        let alloc = Global;
         let mut bytes = Vec::from_slice(alloc, b"\xfeSMB\x40\0\0\0\0\0\0\0\x06\0\0\0\0\0\0\0\0\0\0\0")?;
         bytes.extend_from_slice(&[0; 40])?;
         bytes.extend_from_slice(b"\x18\0\0\0\0\0\0\0")?;
@@ -287,9 +279,8 @@ fn frames_are_taken_whole() {
 // nothing is sure.
 #[test]
 fn an_acknowledgment_shows_what_was_taken() {
-    std::test::passes(|| -> Result<(), Fail> {
-        let rt = HostRuntime::host();
-        let alloc = rt.alloc();
+    passes(|| -> Result<(), Fail> {
+        let alloc = Global;
         let mut walk = Walk::new(alloc);
         ask(&mut walk, 1, 1, b"f\0")?;
         grant(&mut walk, 5, 1, Level::Writes)?;
@@ -328,9 +319,8 @@ fn is_dispute(event: &Event) -> bool {
 // A client of two connections: the break at 7 comes after the grant by its epoch, and the one at 8 may have come before it.
 #[test]
 fn epochs_order_connections() {
-    std::test::passes(|| -> Result<(), Fail> {
-        let rt = HostRuntime::host();
-        let mut walk = Walk::new(rt.alloc());
+    passes(|| -> Result<(), Fail> {
+        let mut walk = Walk::new(Global);
         ask(&mut walk, 1, 1, b"f\0")?;
         grant_numbered(&mut walk, 5, 1, Level::Writes, Some(65535))?;
         join(&mut walk, 6, 2, 1)?;
@@ -347,9 +337,8 @@ fn epochs_order_connections() {
 // Without epochs a break over another connection has no place.
 #[test]
 fn leases_of_version_1_have_no_order_between_connections() {
-    std::test::passes(|| -> Result<(), Fail> {
-        let rt = HostRuntime::host();
-        let mut walk = Walk::new(rt.alloc());
+    passes(|| -> Result<(), Fail> {
+        let mut walk = Walk::new(Global);
         ask(&mut walk, 1, 1, b"f\0")?;
         grant(&mut walk, 5, 1, Level::Writes)?;
         join(&mut walk, 6, 2, 1)?;
@@ -362,9 +351,8 @@ fn leases_of_version_1_have_no_order_between_connections() {
 // A break on the grant's connection that has the grant's epoch: its order is known, and its number is wrong.
 #[test]
 fn an_epoch_that_does_not_follow_on_is_shown() {
-    std::test::passes(|| -> Result<(), Fail> {
-        let rt = HostRuntime::host();
-        let mut walk = Walk::new(rt.alloc());
+    passes(|| -> Result<(), Fail> {
+        let mut walk = Walk::new(Global);
         ask(&mut walk, 1, 1, b"f\0")?;
         grant_numbered(&mut walk, 5, 1, Level::Writes, Some(3))?;
         walk.take(&seen(6, 1, break_to(Level::Something, 3)))?;
@@ -383,9 +371,8 @@ fn an_epoch_that_does_not_follow_on_is_shown() {
 // At a capture made at the client, the grant at 10 was taken where the capture has it. It is sure once it is shown to be there.
 #[test]
 fn a_client_takes_what_its_capture_has() {
-    std::test::passes(|| -> Result<(), Fail> {
-        let rt = HostRuntime::host();
-        let alloc = rt.alloc();
+    passes(|| -> Result<(), Fail> {
+        let alloc = Global;
         let mut walk = Walk::new(alloc);
         ask(&mut walk, 1, 1, b"f\0")?;
         grant(&mut walk, 5, 1, Level::Writes)?;
@@ -404,9 +391,8 @@ fn a_client_takes_what_its_capture_has() {
 // at 18 and its acknowledgment comes after what may be missing.
 #[test]
 fn a_gap_cuts_chains_off() {
-    std::test::passes(|| -> Result<(), Fail> {
-        let rt = HostRuntime::host();
-        let alloc = rt.alloc();
+    passes(|| -> Result<(), Fail> {
+        let alloc = Global;
         let mut walk = Walk::new(alloc);
         ask(&mut walk, 1, 1, b"f\0")?;
         grant(&mut walk, 5, 1, Level::Writes)?;
@@ -426,9 +412,8 @@ fn a_gap_cuts_chains_off() {
 // The gap may hide a request that changes names, so that the name leads to another file after it.
 #[test]
 fn a_gap_may_hide_a_rename() {
-    std::test::passes(|| -> Result<(), Fail> {
-        let rt = HostRuntime::host();
-        let alloc = rt.alloc();
+    passes(|| -> Result<(), Fail> {
+        let alloc = Global;
         let mut walk = Walk::new(alloc);
         ask(&mut walk, 1, 1, b"f\0")?;
         grant(&mut walk, 5, 1, Level::Writes)?;
@@ -444,9 +429,8 @@ fn a_gap_may_hide_a_rename() {
 // A connection that began before the capture is anybody's at its server: what is missing on it may have given the lease up.
 #[test]
 fn a_gap_of_a_stranger_may_be_of_any_lease() {
-    std::test::passes(|| -> Result<(), Fail> {
-        let rt = HostRuntime::host();
-        let alloc = rt.alloc();
+    passes(|| -> Result<(), Fail> {
+        let alloc = Global;
         let mut walk = Walk::new(alloc);
         ask(&mut walk, 1, 1, b"f\0")?;
         grant(&mut walk, 5, 1, Level::Writes)?;
@@ -464,9 +448,8 @@ fn a_gap_of_a_stranger_may_be_of_any_lease() {
 // What has no place in the order may have come first, so that no change of the client is sure.
 #[test]
 fn a_dispute_leaves_no_chain() {
-    std::test::passes(|| -> Result<(), Fail> {
-        let rt = HostRuntime::host();
-        let alloc = rt.alloc();
+    passes(|| -> Result<(), Fail> {
+        let alloc = Global;
         let mut walk = Walk::new(alloc);
         ask(&mut walk, 1, 1, b"f\0")?;
         grant(&mut walk, 5, 1, Level::Writes)?;
@@ -491,9 +474,8 @@ fn response_header(command: u8, id: [u8; 8]) -> [u8; 64] {
 // A response that grants RW by a lease of version 2 with Epoch 7, and a notification with NewEpoch 8 that breaks it to R.
 #[test]
 fn epochs_come_from_frames() {
-    std::test::passes(|| -> Result<(), Fail> {
-        let rt = HostRuntime::host();
-        let alloc = rt.alloc();
+    passes(|| -> Result<(), Fail> {
+        let alloc = Global;
         let mut bytes = Vec::from_slice(alloc, &response_header(5, [2, 0, 0, 0, 0, 0, 0, 0]))?;
         bytes.extend_from_slice(b"\x59\0\xff\0\x01\0\0\0")?;
         bytes.extend_from_slice(&[0; 72])?;
@@ -524,9 +506,8 @@ fn epochs_come_from_frames() {
 // A break of no open that is known may be of the one whose response comes later over another connection.
 #[test]
 fn a_stray_break_is_a_dispute() {
-    std::test::passes(|| -> Result<(), Fail> {
-        let rt = HostRuntime::host();
-        let mut walk = Walk::new(rt.alloc());
+    passes(|| -> Result<(), Fail> {
+        let mut walk = Walk::new(Global);
         ask(&mut walk, 1, 1, b"f\0")?;
         join(&mut walk, 5, 2, 1)?;
         walk.take(&seen(6, 2, break_to(Level::Something, 9)))?;
@@ -540,9 +521,8 @@ fn a_stray_break_is_a_dispute() {
 // But not if the client asks for that one later.
 #[test]
 fn a_stray_break_before_the_request_is_none() {
-    std::test::passes(|| -> Result<(), Fail> {
-        let rt = HostRuntime::host();
-        let mut walk = Walk::new(rt.alloc());
+    passes(|| -> Result<(), Fail> {
+        let mut walk = Walk::new(Global);
         join(&mut walk, 1, 2, 1)?;
         walk.take(&seen(2, 2, break_to(Level::Something, 9)))?;
         ask(&mut walk, 3, 1, b"f\0")?;

@@ -1,19 +1,18 @@
-// Made by tools/plain_rust from crates/text_examples/src/wire/words.rt. Changes belong there.
+//! What people read of a capture: words for what is decided of a file, for why a client isn't judged, and for messages.
 
-use std::prelude::{HostRuntime, String, Vec, format};
-// What people read of a capture: words for what is decided of a file, for why a client isn't judged, and for messages.
 use leasecheck::proved::capture_texts::{ClientFinding, ClientName, Judged, MessageName, MessagePart};
 use leasecheck::proved::capture_walk::NotJudged;
 use leasecheck::proved::capture_wire::Command;
 use smblease::proved::lease_state::Bytes;
-use std::alloc::Global;
-use std::test::Fail;
+use smblease_std::alloc::Global;
+use smblease_std::prelude::{String, Vec, format};
+use smblease_std::test::Fail;
+use smblease_std::test::passes;
 
 #[test]
 fn what_is_decided_of_a_file_has_words() {
-    std::test::passes(|| -> Result<(), Fail> {
-        let rt = HostRuntime::host();
-        let alloc = rt.alloc();
+    passes(|| -> Result<(), Fail> {
+        let alloc = Global;
         let words = format!(in alloc;
             "{}; {}; {}; {}",
             Judged::Safe,
@@ -36,16 +35,15 @@ fn unjudged(alloc: Global, reason: NotJudged) -> Result<String, Fail> {
 
 #[test]
 fn each_reason_why_a_client_is_not_judged_has_words() {
-    std::test::passes(|| -> Result<(), Fail> {
-        let rt = HostRuntime::host();
-        let missing = unjudged(rt.alloc(), NotJudged::Missing)?;
+    passes(|| -> Result<(), Fail> {
+        let missing = unjudged(Global, NotJudged::Missing)?;
         assert_eq!(missing.as_str(), "client 10.0.0.1:50000: not judged, something of it is missing or can't be read");
-        let disputed = unjudged(rt.alloc(), NotJudged::Disputed)?;
+        let disputed = unjudged(Global, NotJudged::Disputed)?;
         assert_eq!(
             disputed.as_str(),
             "client 10.0.0.1:50000: not judged, it has one key for two files, or learns of a lease over several connections without an order"
         );
-        let stranger = unjudged(rt.alloc(), NotJudged::Stranger)?;
+        let stranger = unjudged(Global, NotJudged::Stranger)?;
         assert_eq!(
             stranger.as_str(),
             "client 10.0.0.1:50000: not judged, a break under its key comes over a connection of which it isn't known whose it is"
@@ -57,9 +55,8 @@ fn each_reason_why_a_client_is_not_judged_has_words() {
 // The names of MS-SMB2 2.2.1.2.
 #[test]
 fn messages_have_the_names_of_their_commands() {
-    std::test::passes(|| -> Result<(), Fail> {
-        let rt = HostRuntime::host();
-        let alloc = rt.alloc();
+    passes(|| -> Result<(), Fail> {
+        let alloc = Global;
         for (command, words) in [
             (Command::Negotiate, "NEGOTIATE request"),
             (Command::SessionSetup, "SESSION_SETUP request"),

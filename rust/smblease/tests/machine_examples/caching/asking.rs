@@ -1,15 +1,14 @@
-// Made by tools/plain_rust from crates/machine_examples/src/caching/asking.rt. Changes belong there.
+//! Asking for more under one key.
 
-use std::prelude::HostRuntime;
-// Asking for more under one key.
 use crate::caching::setting::{
     FILE, after, answers, asked, believes, bytes, cached_read, connected, create, create_failed, created, created_in_break, open,
     opened, opened_as, read, read_done, refuses, told, write, write_failed,
 };
 use smblease::proved::lease_client::{Answer, Client, Command, Note, Refusal, Settlement};
 use smblease::proved::lease_state::{Access, FileId, LeaseState, Request, Share, Status};
-use std::alloc::Global;
-use std::test::Fail;
+use smblease_std::alloc::Global;
+use smblease_std::test::Fail;
+use smblease_std::test::passes;
 
 // Open for reads under R, with a base, and asking to write.
 fn asking(alloc: Global) -> Result<Client, Fail> {
@@ -20,9 +19,8 @@ fn asking(alloc: Global) -> Result<Client, Fail> {
 
 #[test]
 fn asks_for_what_both_have() {
-    std::test::passes(|| -> Result<(), Fail> {
-        let rt = HostRuntime::host();
-        let alloc = rt.alloc();
+    passes(|| -> Result<(), Fail> {
+        let alloc = Global;
         let first = open(1, Access::ReadWrite, Share::Nothing, 7, false);
         let client = told(after(connected(alloc)?, first)?, created(alloc, 1, 7)?)?;
         let contexts = asked(alloc, 7)?;
@@ -38,9 +36,8 @@ fn asks_for_what_both_have() {
 
 #[test]
 fn refuses_while_it_asks() {
-    std::test::passes(|| -> Result<(), Fail> {
-        let rt = HostRuntime::host();
-        let alloc = rt.alloc();
+    passes(|| -> Result<(), Fail> {
+        let alloc = Global;
         let same = open(1, Access::Read, Share::ReadWrite, 1, false);
         let client = refuses(asking(alloc)?, same, Refusal::Busy)?;
         let client = refuses(client, Command::Close { file: FILE }, Refusal::Busy)?;
@@ -51,9 +48,8 @@ fn refuses_while_it_asks() {
 
 #[test]
 fn sends_no_read_while_it_asks() {
-    std::test::passes(|| -> Result<(), Fail> {
-        let rt = HostRuntime::host();
-        let alloc = rt.alloc();
+    passes(|| -> Result<(), Fail> {
+        let alloc = Global;
         let client = opened_as(alloc, Access::Read, 1)?;
         let client = after(client, open(1, Access::Write, Share::Read, 7, false))?;
         refuses(client, read(), Refusal::Busy)?;
@@ -63,9 +59,8 @@ fn sends_no_read_while_it_asks() {
 
 #[test]
 fn is_granted_more() {
-    std::test::passes(|| -> Result<(), Fail> {
-        let rt = HostRuntime::host();
-        let alloc = rt.alloc();
+    passes(|| -> Result<(), Fail> {
+        let alloc = Global;
         let client = answers(alloc, Answer::Done)
             .sends(Request::Close { fid: FileId(1) })?
             .notes(believes(7))?
@@ -78,9 +73,8 @@ fn is_granted_more() {
 
 #[test]
 fn is_granted_nothing_in_a_break() {
-    std::test::passes(|| -> Result<(), Fail> {
-        let rt = HostRuntime::host();
-        let alloc = rt.alloc();
+    passes(|| -> Result<(), Fail> {
+        let alloc = Global;
         let client = answers(alloc, Answer::Done)
             .sends(Request::Close { fid: FileId(1) })?
             .take(asking(alloc)?, created_in_break(alloc, 2, 7)?)?;
@@ -92,9 +86,8 @@ fn is_granted_nothing_in_a_break() {
 // The old open is gone: the entry waits for the create that is under way.
 #[test]
 fn is_told_file_closed() {
-    std::test::passes(|| -> Result<(), Fail> {
-        let rt = HostRuntime::host();
-        let alloc = rt.alloc();
+    passes(|| -> Result<(), Fail> {
+        let alloc = Global;
         let client = after(opened(alloc, 7)?, write(alloc, 0, b"X")?)?;
         let client = after(client, Command::Flush { file: FILE })?;
         let client = after(client, open(1, Access::Read, Share::ReadWrite, 7, false))?;
@@ -111,9 +104,8 @@ fn is_told_file_closed() {
 
 #[test]
 fn forgets_at_a_notice_that_it_asked() {
-    std::test::passes(|| -> Result<(), Fail> {
-        let rt = HostRuntime::host();
-        let alloc = rt.alloc();
+    passes(|| -> Result<(), Fail> {
+        let alloc = Global;
         let client = answers(alloc, Answer::Quiet).notes(believes(0))?.notice(asking(alloc)?)?;
         answers(alloc, Answer::Quiet).take(client, created(alloc, 2, 7)?)?;
         Ok(())
@@ -123,9 +115,8 @@ fn forgets_at_a_notice_that_it_asked() {
 // A parked entry gives its open up for one on other terms.
 #[test]
 fn opens_a_parked_file_anew() {
-    std::test::passes(|| -> Result<(), Fail> {
-        let rt = HostRuntime::host();
-        let alloc = rt.alloc();
+    passes(|| -> Result<(), Fail> {
+        let alloc = Global;
         let client = after(opened(alloc, 7)?, Command::Close { file: FILE })?;
         let contexts = asked(alloc, 1)?;
         answers(alloc, Answer::Waiting)

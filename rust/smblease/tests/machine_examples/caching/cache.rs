@@ -1,20 +1,19 @@
-// Made by tools/plain_rust from crates/machine_examples/src/caching/cache.rt. Changes belong there.
+//! One file's life: opened, written and read under RWH, broken and closed.
 
-use std::prelude::HostRuntime;
-// One file's life: opened, written and read under RWH, broken and closed.
 use crate::caching::setting::{
     FILE, ack, after, answers, asked, believes, break_to, bytes, cached_read, connected, create, created, open_all, opened,
     patch, read, read_done, read_request, told, write, write_done, write_request,
 };
 use smblease::proved::lease_client::{Answer, Command, Note, Refusal, Settlement};
 use smblease::proved::lease_state::{Access, FileId, LeaseState, Request, Share};
-use std::test::Fail;
+use smblease_std::alloc::Global;
+use smblease_std::test::Fail;
+use smblease_std::test::passes;
 
 #[test]
 fn opens_a_file() {
-    std::test::passes(|| -> Result<(), Fail> {
-        let rt = HostRuntime::host();
-        let alloc = rt.alloc();
+    passes(|| -> Result<(), Fail> {
+        let alloc = Global;
         let request = create(Access::ReadWrite, Share::ReadWrite, asked(alloc, 7)?);
         let client = answers(alloc, Answer::Waiting).sends(request)?.app(connected(alloc)?, open_all(7, false))?;
         let client = answers(alloc, Answer::Done).notes(believes(7))?.take(client, created(alloc, 1, 7)?)?;
@@ -25,9 +24,8 @@ fn opens_a_file() {
 
 #[test]
 fn buffers_writes() {
-    std::test::passes(|| -> Result<(), Fail> {
-        let rt = HostRuntime::host();
-        let alloc = rt.alloc();
+    passes(|| -> Result<(), Fail> {
+        let alloc = Global;
         let client = answers(alloc, Answer::Done)
             .notes(Note::Wrote(FILE, 1, patch(alloc, 0, b"X")?, true))?
             .app(opened(alloc, 7)?, write(alloc, 0, b"X")?)?;
@@ -40,9 +38,8 @@ fn buffers_writes() {
 
 #[test]
 fn reads_its_own_writes() {
-    std::test::passes(|| -> Result<(), Fail> {
-        let rt = HostRuntime::host();
-        let alloc = rt.alloc();
+    passes(|| -> Result<(), Fail> {
+        let alloc = Global;
         let client = after(opened(alloc, 7)?, write(alloc, 0, b"X")?)?;
         let client = after(client, write(alloc, 4, b"Y")?)?;
         let client = answers(alloc, Answer::Waiting).sends(read_request(1))?.app(client, read())?;
@@ -56,9 +53,8 @@ fn reads_its_own_writes() {
 
 #[test]
 fn flushes_before_it_acknowledges() {
-    std::test::passes(|| -> Result<(), Fail> {
-        let rt = HostRuntime::host();
-        let alloc = rt.alloc();
+    passes(|| -> Result<(), Fail> {
+        let alloc = Global;
         let client = after(opened(alloc, 7)?, write(alloc, 0, b"X")?)?;
         let client = after(client, write(alloc, 4, b"Y")?)?;
         let client = answers(alloc, Answer::Quiet)
@@ -75,9 +71,8 @@ fn flushes_before_it_acknowledges() {
 
 #[test]
 fn a_done_write_stays_in_the_base() {
-    std::test::passes(|| -> Result<(), Fail> {
-        let rt = HostRuntime::host();
-        let alloc = rt.alloc();
+    passes(|| -> Result<(), Fail> {
+        let alloc = Global;
         let client = after(opened(alloc, 3)?, read())?;
         let client = told(client, read_done(alloc, 1, b"abc")?)?;
         let client = answers(alloc, Answer::Waiting)
@@ -93,9 +88,8 @@ fn a_done_write_stays_in_the_base() {
 // R alone goes without an acknowledgment, and the cache with it.
 #[test]
 fn a_break_of_reads_drops_the_cache() {
-    std::test::passes(|| -> Result<(), Fail> {
-        let rt = HostRuntime::host();
-        let alloc = rt.alloc();
+    passes(|| -> Result<(), Fail> {
+        let alloc = Global;
         let client = after(opened(alloc, 1)?, read())?;
         let client = told(client, read_done(alloc, 1, b"abc")?)?;
         let client = answers(alloc, Answer::Quiet).notes(believes(0))?.take(client, break_to(1, 0, 0))?;
@@ -108,9 +102,8 @@ fn a_break_of_reads_drops_the_cache() {
 // no further break.
 #[test]
 fn a_break_of_handles_closes_a_parked_entry() {
-    std::test::passes(|| -> Result<(), Fail> {
-        let rt = HostRuntime::host();
-        let alloc = rt.alloc();
+    passes(|| -> Result<(), Fail> {
+        let alloc = Global;
         let client = after(opened(alloc, 7)?, write(alloc, 0, b"X")?)?;
         let client = answers(alloc, Answer::Done).app(client, Command::Close { file: FILE })?;
         let client = answers(alloc, Answer::Refused(Refusal::NotOpen)).app(client, read())?;
@@ -126,9 +119,8 @@ fn a_break_of_handles_closes_a_parked_entry() {
 
 #[test]
 fn the_last_close_sends_what_is_unsent() {
-    std::test::passes(|| -> Result<(), Fail> {
-        let rt = HostRuntime::host();
-        let alloc = rt.alloc();
+    passes(|| -> Result<(), Fail> {
+        let alloc = Global;
         let client = after(opened(alloc, 5)?, open_all(7, false))?;
         let client = after(client, write(alloc, 0, b"X")?)?;
         let client = answers(alloc, Answer::Done).app(client, Command::Close { file: FILE })?;

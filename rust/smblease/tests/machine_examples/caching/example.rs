@@ -1,17 +1,17 @@
-// Made by tools/plain_rust from crates/machine_examples/src/caching/example.rt. Changes belong there.
+//! The example at the top of the crate.
 
-use std::prelude::{HostRuntime, Vec};
-// The example at the top of the crate.
 use smblease::proved::lease_client::{Answer, Client, Command, Step, lease_key};
 use smblease::proved::lease_state::{Access, Bytes, FileId, FileNo, LeaseState, Patch, Reply, Share};
 use smblease::proved::lease_wire::{CreateAnswer, write_create_reply};
-use std::test::Fail;
+use smblease_std::alloc::Global;
+use smblease_std::prelude::Vec;
+use smblease_std::test::Fail;
+use smblease_std::test::passes;
 
 #[test]
 fn the_example_holds() {
-    std::test::passes(|| -> Result<(), Fail> {
-        let rt = HostRuntime::host();
-        let alloc = rt.alloc();
+    passes(|| -> Result<(), Fail> {
+        let alloc = Global;
         let (guid, file, all) = ([0x11; 16], FileNo(1), LeaseState::from_wire(7));
         let Step { client, .. } = Client::new(alloc, guid, 1)?.connect()?;
         let open = Command::Open { file, access: Access::ReadWrite, share: Share::ReadWrite, want: all, durable: false };

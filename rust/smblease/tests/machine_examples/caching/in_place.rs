@@ -1,10 +1,10 @@
-// Made by tools/plain_rust from crates/machine_examples/src/caching/in_place.rt. Changes belong there.
+//! Calls that change a client in its place, compared with those that take it and give it back.
 
-use std::prelude::HostRuntime;
-// Calls that change a client in its place, compared with those that take it and give it back.
 use crate::caching::setting::{FILE, break_to, connected, created, open_all, opened_durable, write};
 use smblease::proved::lease_client::{Client, Given, Step};
-use std::test::Fail;
+use smblease_std::alloc::Global;
+use smblease_std::test::Fail;
+use smblease_std::test::passes;
 
 fn is_same(client: &Client, given: &Given, step: &Step) -> bool {
     client.belief(FILE) == step.client.belief(FILE)
@@ -15,9 +15,8 @@ fn is_same(client: &Client, given: &Given, step: &Step) -> bool {
 
 #[test]
 fn commands_and_replies_in_place_give_the_same() {
-    std::test::passes(|| -> Result<(), Fail> {
-        let rt = HostRuntime::host();
-        let alloc = rt.alloc();
+    passes(|| -> Result<(), Fail> {
+        let alloc = Global;
         let mut client = connected(alloc)?;
         let mut given = Given::new(alloc);
         let step = connected(alloc)?.app(open_all(7, false))?;
@@ -41,9 +40,8 @@ fn commands_and_replies_in_place_give_the_same() {
 
 #[test]
 fn a_connection_in_place_gives_the_same() {
-    std::test::passes(|| -> Result<(), Fail> {
-        let rt = HostRuntime::host();
-        let alloc = rt.alloc();
+    passes(|| -> Result<(), Fail> {
+        let alloc = Global;
         let mut client = opened_durable(alloc, 7)?;
         let mut given = Given::new(alloc);
         let step = opened_durable(alloc, 7)?.notice()?;

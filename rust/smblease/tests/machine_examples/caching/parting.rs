@@ -1,15 +1,15 @@
-// Made by tools/plain_rust from crates/machine_examples/src/caching/parting.rt. Changes belong there.
+//! Lost connections: what is kept, and what becomes of it.
 
-use std::prelude::{HostRuntime, Vec};
-// Lost connections: what is kept, and what becomes of it.
 use crate::caching::setting::{
     FILE, after, answers, asked_again, asked_durable, believes, connected, create, create_failed, created, open_all, opened,
     opened_durable, read, read_done, read_request, refuses, told, write, write_request,
 };
 use smblease::proved::lease_client::{Answer, Client, Command, Note, Refusal, Settlement};
 use smblease::proved::lease_state::{Access, Bytes, FileId, Reply, Share, Status};
-use std::alloc::Global;
-use std::test::Fail;
+use smblease_std::alloc::Global;
+use smblease_std::prelude::Vec;
+use smblease_std::test::Fail;
+use smblease_std::test::passes;
 
 // Durable under RWH, with a sent and an unsent write, and then the connection lost and made again.
 fn reconnecting(alloc: Global) -> Result<Client, Fail> {
@@ -22,9 +22,8 @@ fn reconnecting(alloc: Global) -> Result<Client, Fail> {
 
 #[test]
 fn asks_for_a_durable_open() {
-    std::test::passes(|| -> Result<(), Fail> {
-        let rt = HostRuntime::host();
-        let alloc = rt.alloc();
+    passes(|| -> Result<(), Fail> {
+        let alloc = Global;
         let contexts = asked_durable(alloc, 7)?;
         answers(alloc, Answer::Waiting)
             .sends(create(Access::ReadWrite, Share::ReadWrite, contexts))?
@@ -35,9 +34,8 @@ fn asks_for_a_durable_open() {
 
 #[test]
 fn keeps_buffered_writes_over_a_lost_connection() {
-    std::test::passes(|| -> Result<(), Fail> {
-        let rt = HostRuntime::host();
-        let alloc = rt.alloc();
+    passes(|| -> Result<(), Fail> {
+        let alloc = Global;
         let client = after(opened_durable(alloc, 7)?, write(alloc, 0, b"X")?)?;
         let client = answers(alloc, Answer::Quiet).notes(believes(0))?.notice(client)?;
         let client = refuses(client, open_all(7, false), Refusal::Offline)?;
@@ -51,9 +49,8 @@ fn keeps_buffered_writes_over_a_lost_connection() {
 
 #[test]
 fn sends_kept_writes_again() {
-    std::test::passes(|| -> Result<(), Fail> {
-        let rt = HostRuntime::host();
-        let alloc = rt.alloc();
+    passes(|| -> Result<(), Fail> {
+        let alloc = Global;
         let client = answers(alloc, Answer::Done).notes(believes(7))?.take(reconnecting(alloc)?, created(alloc, 1, 7)?)?;
         answers(alloc, Answer::Waiting)
             .sends(write_request(alloc, 1, 1, 0, b"X")?)?
@@ -66,9 +63,8 @@ fn sends_kept_writes_again() {
 // Without W what was kept is given up, be it that the open came back so or not at all.
 #[test]
 fn gives_kept_writes_up() {
-    std::test::passes(|| -> Result<(), Fail> {
-        let rt = HostRuntime::host();
-        let alloc = rt.alloc();
+    passes(|| -> Result<(), Fail> {
+        let alloc = Global;
         answers(alloc, Answer::Failed(Status::ObjectNameNotFound))
             .notes(Note::Settled(1, Settlement::Lost))?
             .notes(Note::Settled(2, Settlement::Lost))?
@@ -85,9 +81,8 @@ fn gives_kept_writes_up() {
 // A reply without RqLs gives no belief.
 #[test]
 fn is_answered_without_a_lease() {
-    std::test::passes(|| -> Result<(), Fail> {
-        let rt = HostRuntime::host();
-        let alloc = rt.alloc();
+    passes(|| -> Result<(), Fail> {
+        let alloc = Global;
         let reply = Reply::Created { file: FILE, fid: FileId(1), contexts: Bytes::new(Vec::new(alloc)) };
         answers(alloc, Answer::Done)
             .notes(Note::Settled(1, Settlement::Lost))?
@@ -100,9 +95,8 @@ fn is_answered_without_a_lease() {
 // Under RH no write is kept.
 #[test]
 fn keeps_no_write_under_reads() {
-    std::test::passes(|| -> Result<(), Fail> {
-        let rt = HostRuntime::host();
-        let alloc = rt.alloc();
+    passes(|| -> Result<(), Fail> {
+        let alloc = Global;
         let client = after(opened_durable(alloc, 3)?, write(alloc, 0, b"X")?)?;
         answers(alloc, Answer::Quiet).notes(Note::Settled(1, Settlement::Unknown))?.notes(believes(0))?.notice(client)?;
         Ok(())
@@ -112,9 +106,8 @@ fn keeps_no_write_under_reads() {
 // Nor is a base kept.
 #[test]
 fn keeps_no_base() {
-    std::test::passes(|| -> Result<(), Fail> {
-        let rt = HostRuntime::host();
-        let alloc = rt.alloc();
+    passes(|| -> Result<(), Fail> {
+        let alloc = Global;
         let client = after(opened_durable(alloc, 3)?, read())?;
         let client = told(client, read_done(alloc, 1, b"abc")?)?;
         let client = client.notice()?.client.connect()?.client;
@@ -126,9 +119,8 @@ fn keeps_no_base() {
 
 #[test]
 fn an_open_that_is_not_durable_ends() {
-    std::test::passes(|| -> Result<(), Fail> {
-        let rt = HostRuntime::host();
-        let alloc = rt.alloc();
+    passes(|| -> Result<(), Fail> {
+        let alloc = Global;
         let client = after(opened(alloc, 7)?, write(alloc, 0, b"X")?)?;
         let client =
             answers(alloc, Answer::Quiet).notes(Note::Settled(1, Settlement::Unknown))?.notes(believes(0))?.notice(client)?;

@@ -1,20 +1,20 @@
-// Made by tools/plain_rust from crates/machine_examples/src/caching/replies.rt. Changes belong there.
+//! What replies do, and why commands are refused.
 
-use std::prelude::{HostRuntime, Vec};
-// What replies do, and why commands are refused.
 use crate::caching::setting::{
     FILE, ack, after, answers, believes, break_to, connected, create_failed, created, created_in_break, open_all, opened,
     opened_as, read, read_done, refuses, told, write, write_failed, write_request,
 };
 use smblease::proved::lease_client::{Answer, Command, Note, Refusal, Settlement};
 use smblease::proved::lease_state::{Access, Bytes, FileId, FileNo, LeaseState, Reply, Status};
-use std::test::Fail;
+use smblease_std::alloc::Global;
+use smblease_std::prelude::Vec;
+use smblease_std::test::Fail;
+use smblease_std::test::passes;
 
 #[test]
 fn a_file_that_is_not_open_hears_an_open() {
-    std::test::passes(|| -> Result<(), Fail> {
-        let rt = HostRuntime::host();
-        let alloc = rt.alloc();
+    passes(|| -> Result<(), Fail> {
+        let alloc = Global;
         refuses(connected(alloc)?, read(), Refusal::NotOpen)?;
         let opening = after(connected(alloc)?, open_all(7, false))?;
         refuses(opening, open_all(7, false), Refusal::Busy)?;
@@ -26,9 +26,8 @@ fn a_file_that_is_not_open_hears_an_open() {
 
 #[test]
 fn access_goes_before_length() {
-    std::test::passes(|| -> Result<(), Fail> {
-        let rt = HostRuntime::host();
-        let alloc = rt.alloc();
+    passes(|| -> Result<(), Fail> {
+        let alloc = Global;
         refuses(opened_as(alloc, Access::Write, 7)?, read(), Refusal::Denied)?;
         let long = write(alloc, 4_294_967_295, b"X")?;
         refuses(opened_as(alloc, Access::Read, 7)?, long, Refusal::Denied)?;
@@ -42,9 +41,8 @@ fn access_goes_before_length() {
 
 #[test]
 fn the_last_handle_waits_for_answers() {
-    std::test::passes(|| -> Result<(), Fail> {
-        let rt = HostRuntime::host();
-        let alloc = rt.alloc();
+    passes(|| -> Result<(), Fail> {
+        let alloc = Global;
         let reading = after(opened(alloc, 1)?, read())?;
         refuses(reading, Command::Close { file: FILE }, Refusal::Busy)?;
         let writing = after(opened(alloc, 1)?, write(alloc, 0, b"X")?)?;
@@ -55,9 +53,8 @@ fn the_last_handle_waits_for_answers() {
 
 #[test]
 fn a_break_in_progress_grants_nothing() {
-    std::test::passes(|| -> Result<(), Fail> {
-        let rt = HostRuntime::host();
-        let alloc = rt.alloc();
+    passes(|| -> Result<(), Fail> {
+        let alloc = Global;
         let client = after(connected(alloc)?, open_all(7, false))?;
         let client = answers(alloc, Answer::Done).take(client, created_in_break(alloc, 1, 7)?)?;
         assert_eq!(client.belief(FILE), LeaseState::NONE);
@@ -67,9 +64,8 @@ fn a_break_in_progress_grants_nothing() {
 
 #[test]
 fn a_refused_create_closes_the_entry() {
-    std::test::passes(|| -> Result<(), Fail> {
-        let rt = HostRuntime::host();
-        let alloc = rt.alloc();
+    passes(|| -> Result<(), Fail> {
+        let alloc = Global;
         let client = after(connected(alloc)?, open_all(7, false))?;
         let client =
             answers(alloc, Answer::Failed(Status::SharingViolation)).take(client, create_failed(Status::SharingViolation))?;
@@ -81,9 +77,8 @@ fn a_refused_create_closes_the_entry() {
 // The open is gone: what was sent has failed, and so has what wasn't.
 #[test]
 fn file_closed_fails_every_write() {
-    std::test::passes(|| -> Result<(), Fail> {
-        let rt = HostRuntime::host();
-        let alloc = rt.alloc();
+    passes(|| -> Result<(), Fail> {
+        let alloc = Global;
         let client = after(opened(alloc, 7)?, write(alloc, 0, b"X")?)?;
         let client = answers(alloc, Answer::Waiting)
             .sends(write_request(alloc, 1, 1, 0, b"X")?)?
@@ -102,9 +97,8 @@ fn file_closed_fails_every_write() {
 // Another status, or FILE_CLOSED of another FileId, leaves the open as it is.
 #[test]
 fn a_failed_write_leaves_the_open() {
-    std::test::passes(|| -> Result<(), Fail> {
-        let rt = HostRuntime::host();
-        let alloc = rt.alloc();
+    passes(|| -> Result<(), Fail> {
+        let alloc = Global;
         for (fid, status) in [(1, Status::AccessDenied), (2, Status::FileClosed)] {
             let client = after(opened(alloc, 1)?, write(alloc, 0, b"X")?)?;
             let client = answers(alloc, Answer::Failed(status))
@@ -118,9 +112,8 @@ fn a_failed_write_leaves_the_open() {
 
 #[test]
 fn a_failed_read_is_answered_once() {
-    std::test::passes(|| -> Result<(), Fail> {
-        let rt = HostRuntime::host();
-        let alloc = rt.alloc();
+    passes(|| -> Result<(), Fail> {
+        let alloc = Global;
         let client = after(opened(alloc, 1)?, read())?;
         let failed = Reply::ReadFailed { fid: FileId(1), status: Status::AccessDenied };
         let client = answers(alloc, Answer::Failed(Status::AccessDenied)).take(client, failed)?;
@@ -133,9 +126,8 @@ fn a_failed_read_is_answered_once() {
 // can't be read.
 #[test]
 fn passes_over_what_fits_nothing() {
-    std::test::passes(|| -> Result<(), Fail> {
-        let rt = HostRuntime::host();
-        let alloc = rt.alloc();
+    passes(|| -> Result<(), Fail> {
+        let alloc = Global;
         let mut strange = Vec::new(alloc);
         strange.push(Reply::Created { file: FileNo(9), fid: FileId(1), contexts: Bytes::new(Vec::new(alloc)) })?;
         strange.push(created(alloc, 2, 7)?)?;
@@ -153,9 +145,8 @@ fn passes_over_what_fits_nothing() {
 
 #[test]
 fn hears_a_break_only_while_it_is_live() {
-    std::test::passes(|| -> Result<(), Fail> {
-        let rt = HostRuntime::host();
-        let alloc = rt.alloc();
+    passes(|| -> Result<(), Fail> {
+        let alloc = Global;
         answers(alloc, Answer::Quiet).take(connected(alloc)?, break_to(7, 3, 1))?;
         let opening = after(connected(alloc)?, open_all(7, false))?;
         answers(alloc, Answer::Quiet).take(opening, break_to(7, 3, 1))?;
@@ -166,9 +157,8 @@ fn hears_a_break_only_while_it_is_live() {
 // The belief goes down to what it has in common with the notification.
 #[test]
 fn a_break_leaves_what_both_have() {
-    std::test::passes(|| -> Result<(), Fail> {
-        let rt = HostRuntime::host();
-        let alloc = rt.alloc();
+    passes(|| -> Result<(), Fail> {
+        let alloc = Global;
         answers(alloc, Answer::Quiet).sends(ack(1))?.notes(believes(1))?.take(opened(alloc, 3)?, break_to(7, 5, 1))?;
         Ok(())
     })
@@ -177,9 +167,8 @@ fn a_break_leaves_what_both_have() {
 // A second handle on the same terms needs no message.
 #[test]
 fn opens_one_file_twice() {
-    std::test::passes(|| -> Result<(), Fail> {
-        let rt = HostRuntime::host();
-        let alloc = rt.alloc();
+    passes(|| -> Result<(), Fail> {
+        let alloc = Global;
         let client = answers(alloc, Answer::Done).app(opened(alloc, 3)?, open_all(0, true))?;
         let client = answers(alloc, Answer::Done).app(client, Command::Close { file: FILE })?;
         let client = told(client, created(alloc, 9, 7)?)?;

@@ -1,12 +1,11 @@
-// Made by tools/plain_rust from crates/machine_examples/src/caching/setting.rt. Changes belong there.
+//! What the tests have in common: a client with this ClientGuid and one file, whose opens get
+//! FileIds from 1 on, and the bytes of replies.
 
-use std::prelude::Vec;
-// What the tests have in common: a client with this ClientGuid and one file, whose opens get
-// FileIds from 1 on, and the bytes of replies.
 use smblease::proved::lease_client::{Answer, Client, Command, Note, Refusal, SharedBytes, Step};
 use smblease::proved::lease_state::{Access, Bytes, FileId, FileNo, LeaseState, Patch, Reply, Request, Share, Status};
-use std::alloc::Global;
-use std::test::Fail;
+use smblease_std::alloc::Global;
+use smblease_std::prelude::Vec;
+use smblease_std::test::Fail;
 
 pub const GUID: [u8; 16] = [0x11; 16];
 

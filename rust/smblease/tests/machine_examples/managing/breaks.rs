@@ -1,17 +1,17 @@
-// Made by tools/plain_rust from crates/machine_examples/src/managing/breaks.rt. Changes belong there.
+//! What waits for a break, and how it goes on.
 
-use std::prelude::{HostRuntime, Vec};
-// What waits for a break, and how it goes on.
 use super::words::{FILE, KEY, LATER_KEY, ONE, TWO, breaks, create, gave, joined, opened};
 use smblease::proved::lease_manager::{Ask, Decision, Tag};
 use smblease::proved::lease_state::{FileId, LeaseState, Status};
-use std::test::Fail;
+use smblease_std::alloc::Global;
+use smblease_std::prelude::Vec;
+use smblease_std::test::Fail;
+use smblease_std::test::passes;
 
 #[test]
 fn a_create_waits_for_a_break() {
-    std::test::passes(|| -> Result<(), Fail> {
-        let rt = HostRuntime::host();
-        let alloc = rt.alloc();
+    passes(|| -> Result<(), Fail> {
+        let alloc = Global;
         let mut manager = joined(alloc)?;
         let mut told = Vec::new(alloc);
         manager.ask(ONE, Tag(10), create(KEY, 7, false), &mut told)?;
@@ -35,9 +35,8 @@ fn a_create_waits_for_a_break() {
 
 #[test]
 fn requests_are_refused() {
-    std::test::passes(|| -> Result<(), Fail> {
-        let rt = HostRuntime::host();
-        let alloc = rt.alloc();
+    passes(|| -> Result<(), Fail> {
+        let alloc = Global;
         let mut manager = joined(alloc)?;
         let mut told = Vec::new(alloc);
         manager.ask(ONE, Tag(10), create(KEY, 7, false), &mut told)?;
@@ -57,9 +56,8 @@ fn requests_are_refused() {
 
 #[test]
 fn what_waits_is_taken_back() {
-    std::test::passes(|| -> Result<(), Fail> {
-        let rt = HostRuntime::host();
-        let alloc = rt.alloc();
+    passes(|| -> Result<(), Fail> {
+        let alloc = Global;
         let mut manager = joined(alloc)?;
         let mut told = Vec::new(alloc);
         manager.ask(ONE, Tag(10), create(KEY, 7, false), &mut told)?;

@@ -1,19 +1,19 @@
-// Made by tools/plain_rust from crates/machine_examples/src/managing/ends.rt. Changes belong there.
+//! Opens that end though their clients didn't close them.
 
-use std::prelude::{HostRuntime, Vec};
-// Opens that end though their clients didn't close them.
 use super::words::{FILE, KEY, LATER_KEY, ONE, TWO, breaks, create, gave, joined, opened, reconnect};
 use smblease::proved::lease_manager::{Decision, Tag};
 use smblease::proved::lease_state::{FileId, LeaseState};
-use std::test::Fail;
+use smblease_std::alloc::Global;
+use smblease_std::prelude::Vec;
+use smblease_std::test::Fail;
+use smblease_std::test::passes;
 
 const FIRST_ENDS: Decision = Decision::Ended { file_id: FileId(1) };
 
 #[test]
 fn an_open_that_was_left_ends_when_its_handle_is_wanted() {
-    std::test::passes(|| -> Result<(), Fail> {
-        let rt = HostRuntime::host();
-        let alloc = rt.alloc();
+    passes(|| -> Result<(), Fail> {
+        let alloc = Global;
         let mut manager = joined(alloc)?;
         let mut told = Vec::new(alloc);
         manager.ask(ONE, Tag(10), create(KEY, 7, true), &mut told)?;
@@ -34,9 +34,8 @@ fn an_open_that_was_left_ends_when_its_handle_is_wanted() {
 
 #[test]
 fn an_open_that_was_left_is_connected_again() {
-    std::test::passes(|| -> Result<(), Fail> {
-        let rt = HostRuntime::host();
-        let alloc = rt.alloc();
+    passes(|| -> Result<(), Fail> {
+        let alloc = Global;
         let mut manager = joined(alloc)?;
         let mut told = Vec::new(alloc);
         manager.ask(ONE, Tag(10), create(KEY, 7, true), &mut told)?;
@@ -51,9 +50,8 @@ fn an_open_that_was_left_is_connected_again() {
 
 #[test]
 fn timers_end_opens() {
-    std::test::passes(|| -> Result<(), Fail> {
-        let rt = HostRuntime::host();
-        let alloc = rt.alloc();
+    passes(|| -> Result<(), Fail> {
+        let alloc = Global;
         let mut manager = joined(alloc)?;
         let mut told = Vec::new(alloc);
         manager.ask(ONE, Tag(10), create(KEY, 7, true), &mut told)?;

@@ -1,11 +1,10 @@
-// Made by tools/plain_rust from crates/machine_examples/src/managing/timers.rt. Changes belong there.
-
 use super::words::{KEY, ONE, TWO};
 use smblease::proved::break_timers::{BreakNo, BreakTimers};
 use smblease::proved::lease_manager::{BreakNotice, ClientNo, Decision, LeaseName};
 use smblease::proved::lease_state::LeaseState;
-use std::prelude::HostRuntime;
-use std::test::Fail;
+use smblease_std::alloc::Global;
+use smblease_std::test::Fail;
+use smblease_std::test::passes;
 
 fn broken(client: ClientNo, ack_required: bool) -> Decision {
     Decision::Breaks {
@@ -16,9 +15,8 @@ fn broken(client: ClientNo, ack_required: bool) -> Decision {
 
 #[test]
 fn an_old_timer_ends_no_later_break() {
-    std::test::passes(|| -> Result<(), Fail> {
-        let rt = HostRuntime::host();
-        let mut timers = BreakTimers::new(rt.alloc());
+    passes(|| -> Result<(), Fail> {
+        let mut timers = BreakTimers::new(Global);
         assert_eq!(timers.note(&broken(ONE, true))?, Some(BreakNo(1)));
         assert_eq!(timers.note(&broken(TWO, true))?, Some(BreakNo(2)));
         assert_eq!(timers.note(&broken(ONE, true))?, Some(BreakNo(3)));
@@ -33,9 +31,8 @@ fn an_old_timer_ends_no_later_break() {
 
 #[test]
 fn a_break_that_is_acknowledged_has_no_timer() {
-    std::test::passes(|| -> Result<(), Fail> {
-        let rt = HostRuntime::host();
-        let mut timers = BreakTimers::new(rt.alloc());
+    passes(|| -> Result<(), Fail> {
+        let mut timers = BreakTimers::new(Global);
         timers.note(&broken(ONE, true))?;
         timers.note(&broken(TWO, true))?;
         let acknowledged = Decision::Acknowledged { client: ONE, key: KEY, state: LeaseState::from_wire(3) };
@@ -50,9 +47,8 @@ fn a_break_that_is_acknowledged_has_no_timer() {
 
 #[test]
 fn a_break_of_reads_starts_no_timer() {
-    std::test::passes(|| -> Result<(), Fail> {
-        let rt = HostRuntime::host();
-        let mut timers = BreakTimers::new(rt.alloc());
+    passes(|| -> Result<(), Fail> {
+        let mut timers = BreakTimers::new(Global);
         assert_eq!(timers.note(&broken(ONE, false))?, None);
         assert_eq!(timers.note(&broken(ONE, true))?, Some(BreakNo(1)));
         Ok(())

@@ -1,8 +1,6 @@
-// Made by tools/plain_rust from crates/machine_examples/src/managing/words.rt. Changes belong there.
-
 use smblease::proved::lease_manager::{Ask, BreakNotice, ClientNo, CreateAnswer, CreateAsk, Decision, FileNo, Manager, Tag};
 use smblease::proved::lease_state::{Access, FileId, LeaseKey, LeaseState, Memory, Rules, Share};
-use std::alloc::Global;
+use smblease_std::alloc::Global;
 
 pub const KEY: LeaseKey = LeaseKey([0, 1, 2, 3, 4, 5, 6, 7, 8, 9, 10, 11, 12, 13, 14, 15]);
 

@@ -1,21 +1,20 @@
-// Made by tools/plain_rust from crates/machine_examples/src/running/idle.rt. Changes belong there.
-
 //! Events of a run that do nothing, and what stands in their way.
-use std::prelude::HostRuntime;
+
+use smblease_std::alloc::Global;
+use smblease_std::test::passes;
 
 use crate::running::runs::{open, setup, write};
 use smblease::proved::lease_client::{Command, Refusal};
 use smblease::proved::lease_state::{ClientNo, FileNo, Rules};
 use smblease::proved::lease_world::{Event, Idle, Kept, Obstacle, run, run_under};
-use std::test::Fail;
+use smblease_std::test::Fail;
 
 // Two clients of one file. Of the events in between each changes something: the connects, the open with its way to the server
 // and back, the write, the first flush, and the cut.
 #[test]
 fn dead_events_are_told() {
-    std::test::passes(|| -> Result<(), Fail> {
-        let rt = HostRuntime::host();
-        let alloc = rt.alloc();
+    passes(|| -> Result<(), Fail> {
+        let alloc = Global;
         let (one, two, file) = (ClientNo(1), ClientNo(2), FileNo(1));
         let events = [
             Event::ClientTakes(one),

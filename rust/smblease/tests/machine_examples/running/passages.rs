@@ -1,20 +1,19 @@
-// Made by tools/plain_rust from crates/machine_examples/src/running/passages.rt. Changes belong there.
-
 //! What becomes of the requests of a run.
-use std::prelude::HostRuntime;
+
+use smblease_std::alloc::Global;
+use smblease_std::test::passes;
 
 use crate::running::runs::{open, setup};
 use smblease::proved::lease_state::{ClientNo, Rules};
 use smblease::proved::lease_world::{Event, Kept, Passage, run_under};
-use std::test::Fail;
+use smblease_std::test::Fail;
 
 const ONE: ClientNo = ClientNo(1);
 
 #[test]
 fn requests_are_taken() {
-    std::test::passes(|| -> Result<(), Fail> {
-        let rt = HostRuntime::host();
-        let alloc = rt.alloc();
+    passes(|| -> Result<(), Fail> {
+        let alloc = Global;
         let events = [Event::Connect(ONE), open(1, 7), Event::ServerTakes(ONE)];
         let told = run_under(alloc, Rules::profile(), Kept::all(), &setup(alloc, 1, 1)?, &events)?;
         // Facts: the start and joined, then what the server does.
@@ -27,9 +26,8 @@ fn requests_are_taken() {
 
 #[test]
 fn requests_are_lost() {
-    std::test::passes(|| -> Result<(), Fail> {
-        let rt = HostRuntime::host();
-        let alloc = rt.alloc();
+    passes(|| -> Result<(), Fail> {
+        let alloc = Global;
         let events = [Event::Connect(ONE), open(1, 7), Event::Cut(ONE)];
         let told = run_under(alloc, Rules::profile(), Kept::all(), &setup(alloc, 1, 1)?, &events)?;
         assert_eq!(told.passages.len(), 2);

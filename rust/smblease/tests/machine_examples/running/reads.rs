@@ -1,15 +1,15 @@
-// Made by tools/plain_rust from crates/machine_examples/src/running/reads.rt. Changes belong there.
-
 //! Reads from a client's cache, in runs: what is seen is kept, and shared by the facts that show it.
-use std::prelude::{HostRuntime, Vec};
+
+use smblease_std::prelude::Vec;
+use smblease_std::test::passes;
 
 use crate::running::runs::{open, setup, write};
 use crate::running::words::{believes, buffered, changed, joined, opened, read, record, sent, settled, start, took};
 use smblease::proved::lease_client::{Command, Settlement};
 use smblease::proved::lease_state::{ClientNo, FileNo};
 use smblease::proved::lease_world::{Event, Fact, Verdict, judge, run};
-use std::alloc::Global;
-use std::test::Fail;
+use smblease_std::alloc::Global;
+use smblease_std::test::Fail;
 
 fn read_file() -> Event {
     Event::App(ClientNo(1), Command::Read { file: FileNo(1) })
@@ -42,9 +42,8 @@ fn cached_reads(alloc: Global) -> Result<Vec<Fact>, Fail> {
 
 #[test]
 fn cached_reads_show_the_file_with_the_writes() {
-    std::test::passes(|| -> Result<(), Fail> {
-        let rt = HostRuntime::host();
-        let alloc = rt.alloc();
+    passes(|| -> Result<(), Fail> {
+        let alloc = Global;
         let facts = cached_reads(alloc)?;
         let wanted = record(
             alloc,

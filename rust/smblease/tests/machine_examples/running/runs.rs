@@ -1,7 +1,7 @@
-// Made by tools/plain_rust from crates/machine_examples/src/running/runs.rt. Changes belong there.
-
 //! Runs: which are refused, and the records of the others.
-use std::prelude::{HostRuntime, Vec};
+
+use smblease_std::prelude::Vec;
+use smblease_std::test::passes;
 
 use crate::running::words::{believes, buffered, changed, joined, opened, patch, record, sent, settled, start, took};
 use smblease::proved::lease_client::{Command, Settlement};
@@ -9,17 +9,16 @@ use smblease::proved::lease_state::{
     Access, Bytes, ClientNo, Content, FileId, FileNo, LeaseState, Order, Reply, Rise, Rules, Share,
 };
 use smblease::proved::lease_world::{Event, Fact, Kept, RunFault, Setup, Verdict, judge, run, run_under};
-use std::alloc::Global;
-use std::test::Fail;
+use smblease_std::alloc::Global;
+use smblease_std::test::Fail;
 
 /// So many files, and so many clients of whose ClientGuids each has another first byte.
 pub fn setup(alloc: Global, files: u8, clients: u8) -> Result<Setup, Fail> {
     let mut setup = Setup { files: Vec::new(alloc), clients: Vec::new(alloc) };
     for file in 0..files {
         let bytes = Vec::from_slice(alloc, &[file, 7])?;
-        match Content::new(bytes) {
-            Ok(content) => setup.files.push(content)?,
-            Err(_) => {}
+        if let Ok(content) = Content::new(bytes) {
+            setup.files.push(content)?;
         }
     }
     for client in 0..clients {
@@ -50,17 +49,13 @@ pub fn write(alloc: Global, client: u8, byte: u8) -> Result<Event, Fail> {
 }
 
 fn fault(alloc: Global, setup: &Setup, events: &[Event]) -> Option<RunFault> {
-    match run(alloc, setup, events) {
-        Ok(_) => None,
-        Err(fault) => Some(fault),
-    }
+    run(alloc, setup, events).err()
 }
 
 #[test]
 fn setups_have_limits() {
-    std::test::passes(|| -> Result<(), Fail> {
-        let rt = HostRuntime::host();
-        let alloc = rt.alloc();
+    passes(|| -> Result<(), Fail> {
+        let alloc = Global;
         let bad = Some(RunFault::BadSetup);
         assert_eq!(fault(alloc, &setup(alloc, 8, 16)?, &[]), None);
         assert_eq!(fault(alloc, &setup(alloc, 9, 1)?, &[]), bad);
@@ -74,9 +69,8 @@ fn setups_have_limits() {
 
 #[test]
 fn events_have_a_limit() {
-    std::test::passes(|| -> Result<(), Fail> {
-        let rt = HostRuntime::host();
-        let alloc = rt.alloc();
+    passes(|| -> Result<(), Fail> {
+        let alloc = Global;
         let mut events = Vec::new(alloc);
         for _ in 0..10_000 {
             events.push(Event::Notice(ClientNo(1)))?;
@@ -94,9 +88,8 @@ fn events_have_a_limit() {
 
 #[test]
 fn a_run_without_events_has_its_starts() {
-    std::test::passes(|| -> Result<(), Fail> {
-        let rt = HostRuntime::host();
-        let alloc = rt.alloc();
+    passes(|| -> Result<(), Fail> {
+        let alloc = Global;
         let facts = run(alloc, &setup(alloc, 2, 1)?, &[Event::ServerTakes(ClientNo(9))])?;
         let wanted = record(alloc, [start(alloc, 1, &[0, 7]), start(alloc, 2, &[1, 7])])?;
         assert!(facts.as_slice() == wanted.as_slice());
@@ -121,9 +114,8 @@ const BREAK: [u8; 44] = [
 // the key is the client's GUID with the file's number after its first twelve bytes.
 #[test]
 fn a_run_gives_what_is_in_its_messages() {
-    std::test::passes(|| -> Result<(), Fail> {
-        let rt = HostRuntime::host();
-        let alloc = rt.alloc();
+    passes(|| -> Result<(), Fail> {
+        let alloc = Global;
         let (one, two) = (ClientNo(1), ClientNo(2));
         let events = [
             Event::Connect(one),
@@ -171,10 +163,10 @@ fn risen(alloc: Global, rules: Rules) -> Result<LeaseState, Fail> {
     let told = run_under(alloc, rules, Kept::nothing(), &setup(alloc, 1, 2)?, &events)?;
     let all = run_under(alloc, rules, Kept::all(), &setup(alloc, 1, 2)?, &events)?;
     if told.facts.as_slice() != all.facts.as_slice() || all.messages.len() != 6 {
-        return Err("another run")?;
+        return Err(Fail::from("another run"));
     }
     if !told.messages.is_empty() || !told.idle.is_empty() || !told.passages.is_empty() {
-        return Err("more than the record")?;
+        return Err(Fail::from("more than the record"));
     }
     let mut believed = LeaseState::NONE;
     for fact in told.facts.as_slice() {
@@ -187,12 +179,11 @@ fn risen(alloc: Global, rules: Rules) -> Result<LeaseState, Fail> {
 
 #[test]
 fn a_lease_rises_by_the_rules_of_its_server() {
-    std::test::passes(|| -> Result<(), Fail> {
-        let rt = HostRuntime::host();
+    passes(|| -> Result<(), Fail> {
         let (as_free, whole) = (LeaseState::from_wire(3), LeaseState::from_wire(1));
         for order in [Order::ByClient, Order::ByKey] {
             for (rise, state) in [(Rise::AsFree, as_free), (Rise::Whole, whole)] {
-                assert_eq!(risen(rt.alloc(), Rules { order, rise })?, state);
+                assert_eq!(risen(Global, Rules { order, rise })?, state);
             }
         }
         Ok(())
@@ -203,9 +194,8 @@ fn a_lease_rises_by_the_rules_of_its_server() {
 // acknowledges, and then the second is answered.
 #[test]
 fn two_clients_take_turns() {
-    std::test::passes(|| -> Result<(), Fail> {
-        let rt = HostRuntime::host();
-        let alloc = rt.alloc();
+    passes(|| -> Result<(), Fail> {
+        let alloc = Global;
         let (one, two) = (ClientNo(1), ClientNo(2));
         let events = [
             Event::Connect(one),

@@ -1,7 +1,8 @@
-// Made by tools/plain_rust from crates/machine_examples/src/running/verdicts.rt. Changes belong there.
-
 //! Verdicts on short records.
-use std::prelude::{HostRuntime, vec};
+
+use smblease_std::alloc::Global;
+use smblease_std::prelude::vec;
+use smblease_std::test::passes;
 
 use crate::running::words::{
     believes, buffered, changed, dropped, expired, joined, opened, patch, read, record, sent, settled, start, strayed, through,
@@ -10,7 +11,7 @@ use crate::running::words::{
 use smblease::proved::lease_client::Settlement;
 use smblease::proved::lease_state::{ClientNo, FileNo};
 use smblease::proved::lease_world::{Fact, Rule, Verdict, judge, judge_each};
-use std::test::Fail;
+use smblease_std::test::Fail;
 
 fn breaks(place: u64, rule: Rule) -> Verdict {
     Verdict::Unsafe { place, rule }
@@ -22,18 +23,16 @@ fn malformed(place: u64) -> Verdict {
 
 #[test]
 fn nothing_is_wrong_with_no_facts() {
-    std::test::passes(|| -> Result<(), Fail> {
-        let rt = HostRuntime::host();
-        assert_eq!(judge(rt.alloc(), &[])?, Verdict::Safe);
+    passes(|| -> Result<(), Fail> {
+        assert_eq!(judge(Global, &[])?, Verdict::Safe);
         Ok(())
     })
 }
 
 #[test]
 fn two_caches_of_which_one_writes() {
-    std::test::passes(|| -> Result<(), Fail> {
-        let rt = HostRuntime::host();
-        let alloc = rt.alloc();
+    passes(|| -> Result<(), Fail> {
+        let alloc = Global;
         let facts = record(alloc, [start(alloc, 1, b""), joined(1), joined(2), believes(1, 1, 5), believes(2, 1, 1)])?;
         assert_eq!(judge(alloc, &facts)?, breaks(5, Rule::OneWriteCache));
 
@@ -58,9 +57,8 @@ fn two_caches_of_which_one_writes() {
 
 #[test]
 fn a_belief_outlives_a_lost_connection() {
-    std::test::passes(|| -> Result<(), Fail> {
-        let rt = HostRuntime::host();
-        let alloc = rt.alloc();
+    passes(|| -> Result<(), Fail> {
+        let alloc = Global;
         let facts = record(
             alloc,
             [start(alloc, 1, b""), joined(1), joined(2), believes(1, 1, 5), dropped(1), believes(2, 1, 1), joined(1)],
@@ -76,9 +74,8 @@ fn a_belief_outlives_a_lost_connection() {
 
 #[test]
 fn a_read_of_other_bytes() {
-    std::test::passes(|| -> Result<(), Fail> {
-        let rt = HostRuntime::host();
-        let alloc = rt.alloc();
+    passes(|| -> Result<(), Fail> {
+        let alloc = Global;
         let stale = breaks(5, Rule::FreshCachedReads);
         let facts = record(alloc, [start(alloc, 1, b"a"), joined(1), sent(1), took(1), read(alloc, 1, 1, b"b")])?;
         assert_eq!(judge(alloc, &facts)?, stale);
@@ -108,9 +105,8 @@ fn a_read_of_other_bytes() {
 
 #[test]
 fn a_read_without_a_message() {
-    std::test::passes(|| -> Result<(), Fail> {
-        let rt = HostRuntime::host();
-        let alloc = rt.alloc();
+    passes(|| -> Result<(), Fail> {
+        let alloc = Global;
         let facts = record(alloc, [start(alloc, 1, b"a"), joined(1), read(alloc, 1, 1, b"a")])?;
         assert_eq!(judge(alloc, &facts)?, breaks(3, Rule::FreshCachedReads));
         let facts = record(
@@ -134,9 +130,8 @@ fn a_read_without_a_message() {
 
 #[test]
 fn a_read_sees_unanswered_writes() {
-    std::test::passes(|| -> Result<(), Fail> {
-        let rt = HostRuntime::host();
-        let alloc = rt.alloc();
+    passes(|| -> Result<(), Fail> {
+        let alloc = Global;
         let facts = record(
             alloc,
             [
@@ -168,9 +163,8 @@ fn a_read_sees_unanswered_writes() {
 
 #[test]
 fn facts_in_an_order_that_no_run_gives() {
-    std::test::passes(|| -> Result<(), Fail> {
-        let rt = HostRuntime::host();
-        let alloc = rt.alloc();
+    passes(|| -> Result<(), Fail> {
+        let alloc = Global;
         let facts = record(alloc, [joined(1), sent(1), start(alloc, 1, b"a"), took(1), read(alloc, 1, 1, b"a")])?;
         assert_eq!(judge(alloc, &facts)?, Verdict::Safe);
         let facts = record(
@@ -192,9 +186,8 @@ fn facts_in_an_order_that_no_run_gives() {
 
 #[test]
 fn a_buffered_write_is_overtaken() {
-    std::test::passes(|| -> Result<(), Fail> {
-        let rt = HostRuntime::host();
-        let alloc = rt.alloc();
+    passes(|| -> Result<(), Fail> {
+        let alloc = Global;
         let facts = record(
             alloc,
             [
@@ -229,9 +222,8 @@ fn a_buffered_write_is_overtaken() {
 
 #[test]
 fn a_write_is_done_that_was_not_accepted() {
-    std::test::passes(|| -> Result<(), Fail> {
-        let rt = HostRuntime::host();
-        let alloc = rt.alloc();
+    passes(|| -> Result<(), Fail> {
+        let alloc = Global;
         for (file, byte, verdict) in
             [(2, b'X', breaks(5, Rule::NoFalseDone)), (1, b'Y', breaks(5, Rule::NoFalseDone)), (1, b'X', Verdict::Safe)]
         {
@@ -256,9 +248,8 @@ fn a_write_is_done_that_was_not_accepted() {
 // The write is client 1's own: the other client wasn't given it, whoever changed the file.
 #[test]
 fn a_client_is_told_of_a_write_of_another() {
-    std::test::passes(|| -> Result<(), Fail> {
-        let rt = HostRuntime::host();
-        let alloc = rt.alloc();
+    passes(|| -> Result<(), Fail> {
+        let alloc = Global;
         for changer in [1, 2] {
             let facts = record(
                 alloc,
@@ -277,9 +268,8 @@ fn a_client_is_told_of_a_write_of_another() {
 
 #[test]
 fn a_settlement_answers_no_write_of_another_client() {
-    std::test::passes(|| -> Result<(), Fail> {
-        let rt = HostRuntime::host();
-        let alloc = rt.alloc();
+    passes(|| -> Result<(), Fail> {
+        let alloc = Global;
         for (seen, verdict) in [(b"X", Verdict::Safe), (b"a", breaks(7, Rule::FreshCachedReads))] {
             let facts = record(
                 alloc,
@@ -301,9 +291,8 @@ fn a_settlement_answers_no_write_of_another_client() {
 
 #[test]
 fn nothing_is_promised_of_strayed_clients() {
-    std::test::passes(|| -> Result<(), Fail> {
-        let rt = HostRuntime::host();
-        let alloc = rt.alloc();
+    passes(|| -> Result<(), Fail> {
+        let alloc = Global;
         let facts = record(
             alloc,
             [
@@ -327,9 +316,8 @@ fn nothing_is_promised_of_strayed_clients() {
 
 #[test]
 fn facts_that_cannot_stand_in_a_record() {
-    std::test::passes(|| -> Result<(), Fail> {
-        let rt = HostRuntime::host();
-        let alloc = rt.alloc();
+    passes(|| -> Result<(), Fail> {
+        let alloc = Global;
         let unstarted = record(
             alloc,
             [
@@ -368,9 +356,8 @@ fn facts_that_cannot_stand_in_a_record() {
 
 #[test]
 fn patches_end_within_the_limit() {
-    std::test::passes(|| -> Result<(), Fail> {
-        let rt = HostRuntime::host();
-        let alloc = rt.alloc();
+    passes(|| -> Result<(), Fail> {
+        let alloc = Global;
         for (offset, added, verdict) in [
             (1_048_575, b"X".as_slice(), Verdict::Safe),
             (1_048_576, b"".as_slice(), Verdict::Safe),
@@ -391,9 +378,8 @@ fn patches_end_within_the_limit() {
 
 #[test]
 fn a_file_may_start_with_more_than_the_limit() {
-    std::test::passes(|| -> Result<(), Fail> {
-        let rt = HostRuntime::host();
-        let alloc = rt.alloc();
+    passes(|| -> Result<(), Fail> {
+        let alloc = Global;
         let long = vec![in alloc; 7; 1_048_577]?;
         let facts = record(alloc, [start(alloc, 255, &long), joined(255), sent(255), took(255), read(alloc, 255, 255, &long)])?;
         assert_eq!(judge(alloc, &facts)?, Verdict::Safe);
@@ -404,9 +390,8 @@ fn a_file_may_start_with_more_than_the_limit() {
 // A write that is late and ends past the limit is reported as Malformed.
 #[test]
 fn malformed_goes_before_a_broken_rule() {
-    std::test::passes(|| -> Result<(), Fail> {
-        let rt = HostRuntime::host();
-        let alloc = rt.alloc();
+    passes(|| -> Result<(), Fail> {
+        let alloc = Global;
         let long = patch(alloc, 1_048_576, b"X")?;
         let facts = record(
             alloc,

@@ -1,12 +1,11 @@
-// Made by tools/plain_rust from crates/machine_examples/src/running/words.rt. Changes belong there.
-
 //! Words for records in tests.
-use std::prelude::Vec;
+
+use smblease_std::prelude::Vec;
 
 use smblease::proved::lease_client::{Settlement, SharedBytes};
 use smblease::proved::lease_state::{Bytes, ClientNo, FileNo, LeaseState, Memory, Patch};
 use smblease::proved::lease_world::Fact;
-use std::alloc::Global;
+use smblease_std::alloc::Global;
 
 /// The facts in order, or why one of them couldn't be made.
 pub fn record<const N: usize>(alloc: Global, facts: [Result<Fact, Memory>; N]) -> Result<Vec<Fact>, Memory> {

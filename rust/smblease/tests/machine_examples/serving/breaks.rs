@@ -1,5 +1,3 @@
-// Made by tools/plain_rust from crates/machine_examples/src/serving/breaks.rt. Changes belong there.
-
 use super::words::Ask::{Ack, Close, Create, Open, Read, Write};
 use super::words::Text::{Leased, Nothing};
 use super::words::Told::{
@@ -8,16 +6,16 @@ use super::words::Told::{
 };
 use super::words::{KEY, LATER_KEY, R, RH, RWH, after, expect_outs, three_joined};
 use smblease::proved::lease_state::{Access, ClientNo, FileNo, Share, Status};
-use std::prelude::HostRuntime;
-use std::test::Fail;
+use smblease_std::alloc::Global;
+use smblease_std::test::Fail;
+use smblease_std::test::passes;
 
 // Client 2 opens before client 1, and client 1 under the later of its two keys before the earlier. A write
 // breaks each key once, in the order of the clients and then of the keys' bytes, and goes on.
 #[test]
 fn a_write_breaks_keys_in_order_and_goes_on() {
-    std::test::passes(|| -> Result<(), Fail> {
-        let rt = HostRuntime::host();
-        let alloc = rt.alloc();
+    passes(|| -> Result<(), Fail> {
+        let alloc = Global;
         let server = three_joined(alloc)?;
         let given = [Opened(1, 2), Created(2, 1, 1, Leased(KEY, RH))];
         let server = after(alloc, server, 2, Open(1, Leased(KEY, RH)), &given)?;
@@ -47,9 +45,8 @@ fn a_write_breaks_keys_in_order_and_goes_on() {
 // A lease of reads alone is broken at once, before the change, and there is nothing to acknowledge.
 #[test]
 fn reads_are_broken_at_once() {
-    std::test::passes(|| -> Result<(), Fail> {
-        let rt = HostRuntime::host();
-        let alloc = rt.alloc();
+    passes(|| -> Result<(), Fail> {
+        let alloc = Global;
         let server = three_joined(alloc)?;
         let given = [Opened(1, 1), Created(1, 1, 1, Leased(KEY, R))];
         let request = Create(1, Access::Read, Share::ReadWrite, Leased(KEY, R));
@@ -68,9 +65,8 @@ fn reads_are_broken_at_once() {
 // lease is broken before the change, and the create that broke the handles is refused only then.
 #[test]
 fn a_break_to_reads_holds_a_write() {
-    std::test::passes(|| -> Result<(), Fail> {
-        let rt = HostRuntime::host();
-        let alloc = rt.alloc();
+    passes(|| -> Result<(), Fail> {
+        let alloc = Global;
         let server = three_joined(alloc)?;
         let given = [Opened(1, 1), Created(1, 1, 1, Leased(KEY, RH))];
         let request = Create(1, Access::Read, Share::ReadWrite, Leased(KEY, RH));
@@ -98,9 +94,8 @@ fn a_break_to_reads_holds_a_write() {
 // second pass finds nobody left who could give up handles, and refuses the create.
 #[test]
 fn passes_until_one_answers_nothing() {
-    std::test::passes(|| -> Result<(), Fail> {
-        let rt = HostRuntime::host();
-        let alloc = rt.alloc();
+    passes(|| -> Result<(), Fail> {
+        let alloc = Global;
         let server = three_joined(alloc)?;
         let given = [Opened(1, 2), Created(2, 1, 1, Leased(KEY, RH))];
         let server = after(alloc, server, 2, Open(1, Leased(KEY, RH)), &given)?;
@@ -127,9 +122,8 @@ fn passes_until_one_answers_nothing() {
 // Client 1 has RH, and is sent nothing for writes and reads that are denied or end past the limit.
 #[test]
 fn denied_requests_break_nothing() {
-    std::test::passes(|| -> Result<(), Fail> {
-        let rt = HostRuntime::host();
-        let alloc = rt.alloc();
+    passes(|| -> Result<(), Fail> {
+        let alloc = Global;
         let server = three_joined(alloc)?;
         let given = [Opened(1, 1), Created(1, 1, 1, Leased(KEY, RH))];
         let server = after(alloc, server, 1, Open(1, Leased(KEY, RH)), &given)?;
@@ -155,9 +149,8 @@ fn denied_requests_break_nothing() {
 // granted nothing, until its client has connected again.
 #[test]
 fn an_expired_key_is_granted_nothing_until_its_client_joins() {
-    std::test::passes(|| -> Result<(), Fail> {
-        let rt = HostRuntime::host();
-        let alloc = rt.alloc();
+    passes(|| -> Result<(), Fail> {
+        let alloc = Global;
         let server = three_joined(alloc)?;
         let given = [Opened(1, 1), Created(1, 1, 1, Leased(KEY, RWH))];
         let server = after(alloc, server, 1, Open(1, Leased(KEY, RWH)), &given)?;

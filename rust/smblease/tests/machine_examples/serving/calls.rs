@@ -1,14 +1,12 @@
-// Made by tools/plain_rust from crates/machine_examples/src/serving/calls.rt. Changes belong there.
-
 use super::words::Ask::{Ack, Close, Create, NoAck, Open, Write};
 use super::words::Text::{Bits, Leased, Nothing};
 use super::words::Told::{AckDone, AckFailed, Broken, CloseFailed, Closed, CreateFailed, Created, Opened, WriteFailed};
 use super::words::{KEY, R, RH, RWH, after, expect_outs, three_joined, two_files};
 use smblease::proved::lease_state::{Access, ClientNo, FileNo, LeaseKey, LeaseState, Share, Status};
 use smblease::proved::share_server::Server;
-use std::alloc::Global;
-use std::prelude::HostRuntime;
-use std::test::Fail;
+use smblease_std::alloc::Global;
+use smblease_std::test::Fail;
+use smblease_std::test::passes;
 
 fn allowed(server: &Server, client: u8, key: Option<LeaseKey>) -> LeaseState {
     server.allowed(ClientNo(client), key, FileNo(1), LeaseState::from_wire(7))
@@ -28,9 +26,8 @@ fn shared(alloc: Global) -> Result<Server, Fail> {
 
 #[test]
 fn one_list_of_opens() {
-    std::test::passes(|| -> Result<(), Fail> {
-        let rt = HostRuntime::host();
-        let alloc = rt.alloc();
+    passes(|| -> Result<(), Fail> {
+        let alloc = Global;
         let server = shared(alloc)?;
         assert_eq!(allowed(&server, 1, Some(KEY)), LeaseState::from_wire(3));
         let server = after(alloc, server, 2, Write(2, 1, 0, b"Y"), &[WriteFailed(2, 2, 1, Status::AccessDenied)])?;
@@ -61,9 +58,8 @@ fn only_the_key_may_cache_writes(alloc: Global, server: Server) -> Result<(), Fa
 
 #[test]
 fn acknowledgments_of_a_breaking_lease() {
-    std::test::passes(|| -> Result<(), Fail> {
-        let rt = HostRuntime::host();
-        let alloc = rt.alloc();
+    passes(|| -> Result<(), Fail> {
+        let alloc = Global;
         let server = three_joined(alloc)?;
         let given = [Opened(1, 1), Created(1, 1, 1, Leased(KEY, RWH))];
         let server = after(alloc, server, 1, Open(1, Leased(KEY, RWH)), &given)?;
@@ -88,9 +84,8 @@ const ODD_STATES: [([u8; 4], u8); 5] =
 
 #[test]
 fn grants_of_odd_states() {
-    std::test::passes(|| -> Result<(), Fail> {
-        let rt = HostRuntime::host();
-        let alloc = rt.alloc();
+    passes(|| -> Result<(), Fail> {
+        let alloc = Global;
         for (bits, given) in ODD_STATES {
             let (server, _) = two_files(alloc)?.join(ClientNo(1))?;
             let wanted = [Opened(1, 1), Created(1, 1, 1, Leased(KEY, given))];
@@ -104,9 +99,8 @@ fn grants_of_odd_states() {
 // is gone the first file comes first.
 #[test]
 fn files_in_the_order_of_their_numbers() {
-    std::test::passes(|| -> Result<(), Fail> {
-        let rt = HostRuntime::host();
-        let alloc = rt.alloc();
+    passes(|| -> Result<(), Fail> {
+        let alloc = Global;
         let other = LeaseKey([7; 16]);
         let server = three_joined(alloc)?;
         let first = [Opened(1, 1), Created(1, 1, 1, Leased(KEY, RWH))];
@@ -128,9 +122,8 @@ fn files_in_the_order_of_their_numbers() {
 
 #[test]
 fn nobody_hears_a_client_that_is_not_connected() {
-    std::test::passes(|| -> Result<(), Fail> {
-        let rt = HostRuntime::host();
-        let alloc = rt.alloc();
+    passes(|| -> Result<(), Fail> {
+        let alloc = Global;
         let server = two_files(alloc)?;
         let server = after(alloc, server, 1, Open(1, Nothing), &[])?;
         let _server = after(alloc, server, 1, Ack(KEY, RH), &[])?;

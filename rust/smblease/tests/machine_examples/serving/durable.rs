@@ -1,22 +1,19 @@
-// Made by tools/plain_rust from crates/machine_examples/src/serving/durable.rt. Changes belong there.
-
 use super::words::Ask::{Create, Open, Read, Write};
 use super::words::Text::{DurableAnswer, DurableAsk, Leased, Nothing, Reconnect};
 use super::words::Told::{Broken, Changed, CreateFailed, Created, Opened, ReadDone, WriteDone};
 use super::words::{KEY, LATER_KEY, R, RH, RWH, Text, after, three_joined};
 use smblease::proved::lease_state::{Access, ClientNo, FileId, FileNo, Share, Status};
 use smblease::proved::share_server::Server;
-use std::alloc::Global;
-use std::prelude::HostRuntime;
-use std::test::Fail;
+use smblease_std::alloc::Global;
+use smblease_std::test::Fail;
+use smblease_std::test::passes;
 
 // An open is durable where that is asked and its lease holds H: not under R, but also under a lease that is
 // breaking to nothing, since it still holds H.
 #[test]
 fn an_open_is_durable_where_its_lease_holds_handles() {
-    std::test::passes(|| -> Result<(), Fail> {
-        let rt = HostRuntime::host();
-        let alloc = rt.alloc();
+    passes(|| -> Result<(), Fail> {
+        let alloc = Global;
         let server = three_joined(alloc)?;
         let given = [Opened(1, 1), Created(1, 1, 1, Leased(KEY, R))];
         let server = after(alloc, server, 1, Open(1, DurableAsk(KEY, R)), &given)?;
@@ -59,9 +56,8 @@ const REFUSED: [(u8, u8, Text); 4] =
 
 #[test]
 fn reconnects_are_refused_where_anything_differs() {
-    std::test::passes(|| -> Result<(), Fail> {
-        let rt = HostRuntime::host();
-        let alloc = rt.alloc();
+    passes(|| -> Result<(), Fail> {
+        let alloc = Global;
         let mut server = kept_for_its_client(alloc)?;
         for (client, file, contexts) in REFUSED {
             let refused = [CreateFailed(client, file, Status::ObjectNameNotFound)];
@@ -74,9 +70,8 @@ fn reconnects_are_refused_where_anything_differs() {
 // It is connected again as it was, whatever else the create asks for; once more is refused.
 #[test]
 fn a_kept_open_is_connected_again_once() {
-    std::test::passes(|| -> Result<(), Fail> {
-        let rt = HostRuntime::host();
-        let alloc = rt.alloc();
+    passes(|| -> Result<(), Fail> {
+        let alloc = Global;
         let server = kept_for_its_client(alloc)?;
         let again = [Created(1, 1, 1, Leased(KEY, RWH))];
         let request = Create(1, Access::Read, Share::Nothing, Reconnect(KEY, 1));
@@ -93,9 +88,8 @@ fn a_kept_open_is_connected_again_once() {
 // again.
 #[test]
 fn a_scavenge_closes_a_disconnected_open() {
-    std::test::passes(|| -> Result<(), Fail> {
-        let rt = HostRuntime::host();
-        let alloc = rt.alloc();
+    passes(|| -> Result<(), Fail> {
+        let alloc = Global;
         let server = three_joined(alloc)?;
         let given = [Opened(1, 1), Created(1, 1, 1, DurableAnswer(KEY, RWH, 0))];
         let server = after(alloc, server, 1, Open(1, DurableAsk(KEY, RWH)), &given)?;
@@ -116,9 +110,8 @@ fn a_scavenge_closes_a_disconnected_open() {
 // What waits for its client is closed at once where another client's create breaks it.
 #[test]
 fn a_kept_open_is_closed_by_what_breaks_it() {
-    std::test::passes(|| -> Result<(), Fail> {
-        let rt = HostRuntime::host();
-        let alloc = rt.alloc();
+    passes(|| -> Result<(), Fail> {
+        let alloc = Global;
         let server = three_joined(alloc)?;
         let given = [Opened(1, 1), Created(1, 1, 1, DurableAnswer(KEY, RWH, 0))];
         let server = after(alloc, server, 1, Open(1, DurableAsk(KEY, RWH)), &given)?;

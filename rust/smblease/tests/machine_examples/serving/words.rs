@@ -1,12 +1,10 @@
-// Made by tools/plain_rust from crates/machine_examples/src/serving/words.rt. Changes belong there.
-
 use smblease::proved::lease_state::{
     Access, Bytes, ClientNo, Content, FileId, FileNo, LeaseKey, Patch, Reply, Request, Share, Status,
 };
 use smblease::proved::share_server::{Out, Server};
-use std::alloc::Global;
-use std::prelude::Vec;
-use std::test::Fail;
+use smblease_std::alloc::Global;
+use smblease_std::prelude::Vec;
+use smblease_std::test::Fail;
 
 pub const KEY: LeaseKey = LeaseKey([0, 1, 2, 3, 4, 5, 6, 7, 8, 9, 10, 11, 12, 13, 14, 15]);
 
