@@ -41,8 +41,8 @@ OUT := out/c
 DIST := dist/x86_64-linux
 HEADERS := $(notdir $(wildcard include/*.h))
 # What is installed of the pages and examples: what a user reads, and COPYING.md on the licence.
-PAGES := CHANGELOG.md COPYING.md SECURITY.md $(patsubst %,docs/%.md,BUILDING C CAPTURES CLIENT_TESTS FORMATS FOUND_ON_SMBD MODEL PROFILE PROOF PROOF_OF_TEXTS PYTHON \
-         REAL_SERVERS RUST SERVE SERVE_TRIED SESSIONS)
+PAGES := CHANGELOG.md COPYING.md SECURITY.md $(patsubst %,docs/%.md,BUILDING C CAPTURES CLIENT_AUTHORS CLIENT_TESTS FORMATS FOUND_ON_SMBD MODEL PROFILE PROOF PROOF_OF_TEXTS PYTHON \
+         REAL_SERVERS RUST SERVER_AUTHORS SERVE SERVE_TRIED SESSIONS)
 MANUAL := man1/leasecheck.1 $(patsubst man/%,%,$(wildcard man/man3/*.3))
 CMAKE := smblease-config.cmake smblease-config-version.cmake
 EXAMPLES := $(patsubst examples/%,%,$(wildcard examples/*.txt examples/c/*.c examples/c/CMakeLists.txt examples/c/file_server/*.txt examples/python/*.py))

@@ -24,7 +24,8 @@ def is_an_edit(name: str) -> bool:
 
 
 def is_a_test(name: str) -> bool:
-    return any(f"def {name}(" in it.read_text(encoding="utf-8") for it in TESTS.rglob("test_*.py")) or any(TOP.glob(f"rust/*/tests/{name}"))
+    in_python = any(f"def {name}(" in it.read_text(encoding="utf-8") for it in TESTS.rglob("test_*.py"))
+    return in_python or any(TOP.glob(f"rust/*/tests/{name}"))
 
 
 def test_each_wrong_version_is_tried() -> None:

@@ -1,1 +1,1 @@
-"""README.md and docs/: their commands give what stands there, and their words are plain."""
+"""README.md, docs/ and the pages of folders: their commands give what stands there, and their words are plain."""

@@ -1,9 +1,9 @@
-"""The commands of README.md, docs/SESSIONS.md and docs/PROFILE.md, as they stand there and in their order, give what stands
-there.
+"""The commands of the pages, as they stand there and in their order, give what stands there.
 
 In an indented block a line `$ COMMAND` is a command, and the lines after it are what it prints, to the letter. A block of lines
-that each begin with make, export or cc is run too, and has to end well. All is run by one shell, in a folder of its own, with a
-home of its own, where the kit's command `rt` does nothing but note that it was called.
+that each begin with a word such as make or cc is run too, and has to end well. All is run by one shell, in a folder of its own,
+with a home of its own, where the kit's command `rt` does nothing but note that it was called. test_shown_commands has the
+commands that stand in other blocks and in sentences.
 """
 from __future__ import annotations
 
@@ -17,21 +17,24 @@ from typing import Iterator, NamedTuple, Optional
 import pytest
 
 from tests import needs
+from tests.pages.blocks import blocks, page, page_names
 from tests.paths import EXAMPLE, TOP
 
-PLAIN = ("make", "export ", "cc ")
+PLAIN = ("make", "export ", "cc ", "mkdir ", "archive=", "out/c/")
 OWN = "make check"
 # What is run in the folder as it is run at the top of the repository.
 LINKS = (
     "CHANGELOG.md", "COPYING.md", "Makefile", "SECURITY.md", "completion", "crates", "crates.txt", "dist", "docs", "drive",
     "examples", "include", "kit.txt", "leasecheck", "man", "out", "pyproject.toml", "python", "rust", "serve", "tests",
     "tools")
-PAGES = ("README.md", "docs/SESSIONS.md", "docs/PROFILE.md")
+# Those that make what others need come first.
+FIRST = ("README.md", "docs/SESSIONS.md")
+PAGES = [*FIRST, *(it for it in page_names() if it not in FIRST)]
 # Commands that have these words need these programs.
 NEEDS = {"pkg-config": "pkg-config", "out/c/": "pkg-config", "./lend": "pkg-config", "drive/capture": "tshark",
-         "man leasecheck": "man"}
+         "clash.record": "tshark", "man leasecheck": "man", "served": "smbclient", "requests.log": "smbclient"}
 # And these need these packages of /usr/bin/python3.
-PACKAGES = {"environment": ("ensurepip", "hatchling")}
+PACKAGES = {"environment": ("ensurepip", "hatchling"), "drive/run": ("impacket",)}
 MOST_LINES = 150
 MOST_LINES_OF_A_USE = 200
 MOST_LINES_OF_A_PAGE = 480
@@ -42,15 +45,6 @@ class Command(NamedTuple):
     text: str
     # None where its status alone counts
     printed: Optional[str]
-
-
-def page(name: str) -> str:
-    return (TOP / name).read_text(encoding="utf-8")
-
-
-def blocks(text: str) -> Iterator[list[str]]:
-    for block in re.findall(r"(?:^    .*\n)+", text, re.M):
-        yield [line[4:] for line in block.splitlines()]
 
 
 def commands(text: str) -> Iterator[Command]:

@@ -1,14 +1,15 @@
 """Words that a reader of English stumbles over, in README.md, the pages of docs/ and of folders, the doc comments of the crates
 and the C headers.
 
-A line of words.allowed is `FILE | PHRASE | REASON`. The phrase stands once in the file, where line breaks count as spaces, and
-has the word in it.
+In the pages the forms of stumbles.py are looked for too. A line of words.allowed is `FILE | PHRASE | REASON`. The phrase stands
+once in the file, where line breaks count as spaces, and has the word in it.
 """
 from __future__ import annotations
 
 import re
 from typing import Iterator, NamedTuple
 
+from tests.pages.stumbles import stumbles_in
 from tests.paths import TESTS, TOP
 
 ALLOWED = TESTS / "pages" / "words.allowed"
@@ -61,10 +62,11 @@ def without_names(text: str) -> str:
     return re.sub(r"`[^`\s]+`", lambda match: " " * len(match[0]), text)
 
 
-def spans(text: str) -> list[tuple[int, int]]:
-    """Where a word of the list stands in a paragraph."""
+def spans(text: str, path: str) -> list[tuple[int, int]]:
+    """Where a word of the list stands in a paragraph of a file, or, of a page, a form of stumbles.py."""
     prose = without_names(text)
-    return sorted([match.span() for match in WORDS.finditer(prose)] + [match.span(1) for match in FIRST.finditer(prose)])
+    found = [match.span() for match in WORDS.finditer(prose)] + [match.span(1) for match in FIRST.finditer(prose)]
+    return sorted(found + (stumbles_in(prose) if path.endswith(".md") else []))
 
 
 def read_allowed() -> list[Allowed]:

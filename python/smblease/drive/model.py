@@ -18,7 +18,7 @@ Key = tuple[int, uuid.UUID]
 
 
 class Departure(Enum):
-    """What smbd was seen to do otherwise; the texts are those of docs/FOUND_ON_SMBD.md."""
+    """What smbd was seen to do otherwise (docs/FOUND_ON_SMBD.md)."""
 
     OPENS_STAY = "a break that times out takes the lease away and leaves its opens"
     CREATES_WAIT = "a create waits for any other lease of the file that is breaking"
@@ -26,18 +26,23 @@ class Departure(Enum):
     OPEN_DROPS = "a new open drops the disconnected opens of other keys"
     RISES_WHOLE = "a lease rises only where all that is wanted may be granted"
     NOTHING_BEHIND = "nothing waits after a held request of the same client"
+    # where another lease breaks to R, its break to none follows the acknowledgment
     WRITES_GO_ON = "a write never waits"
     BY_ARRIVAL = "held requests are tried again by their arrival, whatever their files"
+    # smbd isn't always the same in this
     LAST_FIRST = "held requests are tried again from the last to the first"
     KEPT_ALONE = "an open is kept at a cut only where no other client has the file open"
     OWN_DROPPED = "a new open drops its own key's disconnected open"
+    # in its schedule one that the client left under the same key
     REFUSED_BESIDE = "a reconnect is refused while there is another open"
     BREAKING_KEPT = "an open whose lease is breaking is kept at a cut too"
     KEPT_HOLDS = "such an open goes on holding a create that conflicts with it"
     TIMERS_TOGETHER = "the break timers of a connection run out together"
+    # also of those that it doesn't conflict with
     BREAKS_ALL = "a create that conflicts breaks the handle caching of all keys"
     KEPT_HOLDS_ALL = "such an open goes on holding any create that waits for its lease"
     BACK_NOT_KEPT = "an open under a lease that was given back isn't kept at a cut"
+    # so a lease that was given back is written through while others cache the file
     WRITER_BREAKS_NONE = "a write under a lease that caches writes breaks nothing"
     UNKEPT_GIVES_BACK = "the lease of an open that isn't kept for another client's open is given back to its key"
 
