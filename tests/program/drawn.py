@@ -3,8 +3,9 @@
 Each fact of the record has one mark, in order, with its kind and its words. Those that `judge --explain` names are marked as bad,
 and what it says stands below. Each request has a mark too, above the facts that came later. Arrows lead from where a message or
 a request was sent to where it is taken, bars reach from a belief to the next one, and a client's line is solid where it is
-connected. No arrow crosses words: these stand to the right of a lane's line, ten pixels from it, and between the edges of their
-row.
+connected. No arrow crosses words: these stand to the right of a lane's line, sixteen pixels from it, and between the edges of their
+row. Requests of one client that wait at once have ways of their own beside its line. Bars have the numbers of their files, and above
+all lanes stands what their colors say.
 """
 from __future__ import annotations
 
@@ -34,6 +35,12 @@ ELEMENTS = {
          "circle")}
 TOP = 64
 ROW = 24
+# How many ways of requests have places of their own beside a line.
+WAYS = 3
+# More of a remark is in its title alone.
+ROOM = 62
+LEGEND = [("writecaching", "believes that it may cache writes"),
+          ("caching", "believes that it may cache, but not writes; a number is that of the file")]
 Point = tuple[int, int]
 
 
@@ -70,6 +77,18 @@ def edge(row: int) -> int:
     return TOP + ROW * row
 
 
+def is_of(whole: str, shown: Optional[str], title: Optional[str]) -> bool:
+    """Whether a remark is shown whole, or as a beginning with all of it in the title, which ends with a word or with a whole byte of
+    digits."""
+    if len(whole) <= ROOM:
+        return (shown, title) == (whole, None)
+    beginning = (shown or "").removesuffix("...")
+    digits = re.search(r"[0-9a-f]*$", beginning)
+    ends_word = whole[len(beginning):].startswith(" ")
+    return title == whole and f"{beginning}..." == shown and whole.startswith(beginning) and len(beginning) > 40 \
+        and (ends_word or (digits is not None and len(digits[0]) % 2 == 0))
+
+
 class Picture:
     def __init__(self, text: str, facts: Sequence[Fact], messages: Sequence[str] = (), asked: Sequence[Asked] = (),
                  comments: Sequence[str] = ()) -> None:
@@ -93,6 +112,21 @@ class Picture:
         self.lanes: dict[Optional[str], int] = {
             None if it is None else str(it): headings[name] + 30 for it, name in zip(order, names)}
 
+    @property
+    def lane(self) -> int:
+        """How wide a lane is."""
+        return 300 if len(self.clients) <= 4 else 150
+
+    @property
+    def width(self) -> int:
+        """How wide all lanes are."""
+        return 60 + self.lane * (len(self.clients) + 1) + (60 if len(self.clients) <= 4 else 190)
+
+    def look_at_legend(self) -> None:
+        samples = [it.get("class") for it in self.root.findall(f"{SVG}rect") if it.get("class") in dict(LEGEND)]
+        words = [it.text for it in self.root.findall(f"{SVG}text") if it.get("class") == "number"]
+        assert list(zip(samples, words)) == LEGEND
+
     def notes(self) -> list[str]:
         [notes] = [it for it in self.root.findall(f"{SVG}text") if it.get("class") == "notes"]
         return [it.text or "" for it in notes.findall(f"{SVG}tspan")]
@@ -113,7 +147,7 @@ class Picture:
         for place, (mark, fact) in enumerate(zip(self.marks, self.facts), 1):
             message = next(messages, None) if fact.kind in ("sent", "took") else None
             x, y = middle(mark)
-            assert label(mark) == ((x + 10, y + 4), fact_label(fact, message)), place
+            assert label(mark) == ((x + 16, y + 4), fact_label(fact, message)), place
             assert look(mark) == look_of(fact.kind), place
             [count] = [it for it in mark.findall(f"{SVG}text") if it.get("class") == "number"]
             assert (count.text, number(count, "x"), number(count, "y")) == (str(place), 8, y + 4), place
@@ -121,23 +155,31 @@ class Picture:
 
     def look_at_comments(self) -> None:
         """Each stands in the row of its fact, to the right of the lanes."""
-        left = 60 + 300 * (len(self.clients) + 1) + 60
-        said = [(left, edge(row) + 16, words) for row, words in zip(self.rows, self.comments) if words]
+        said = [(edge(row) + 16, words) for row, words in zip(self.rows, self.comments) if words]
         remarks = [it for it in self.root.findall(f"{SVG}text") if it.get("class") == "remark"]
-        assert [(number(it, "x"), number(it, "y"), it.text) for it in remarks] == said
+        assert [(number(it, "x"), number(it, "y")) for it in remarks] == [(self.width, y) for y, _ in said]
+        assert all(is_of(words, it.text, it.findtext(f"{SVG}title")) for it, (_, words) in zip(remarks, said)), said
 
     def look_at_size(self) -> None:
         """The picture holds all lanes, rows and notes, and comments have a column of their own."""
-        width = max(60 + 300 * (len(self.clients) + 1) + 60, 1020) + (480 if any(self.comments) else 0)
+        width = max(self.width, 1020) + (480 if any(self.comments) else 0)
         height = edge(self.rows[-1]) + 48 + 18 * len(self.notes()) + 24
         assert (number(self.root, "width"), number(self.root, "height")) == (width, height)
         assert self.root.get("viewBox") == f"0 0 {width} {height}"
-        assert [self.lanes[it] for it in self.lanes] == [150 + 300 * lane for lane in range(len(self.lanes))]
+        assert [self.lanes[it] for it in self.lanes] == [150 + self.lane * lane for lane in range(len(self.lanes))]
         for mark, fact in zip(self.marks, self.facts):
             bands = [it for it in mark.findall(f"{SVG}rect") if it.get("class") == "row"]
             assert len(bands) == ("bad" in (mark.get("class") or "").split()), fact
-            lanes = 60 + 300 * (len(self.clients) + 1) + 60
-            assert all((number(it, "x"), number(it, "width"), number(it, "height")) == (0, lanes, ROW) for it in bands), fact
+            assert all((number(it, "x"), number(it, "width"), number(it, "height")) == (0, self.width, ROW) for it in bands), fact
+
+    def way(self, index: int) -> int:
+        """The first place beside the line that no request of the client has which waits when this one is sent."""
+        mine = self.asked[index]
+        row = mine.facts + index
+        waiting = [earlier for earlier in range(index) if self.asked[earlier].client == mine.client
+                   and (self.asked[earlier].end is None or self.asked[earlier].end > row)]
+        taken = {self.way(earlier) for earlier in waiting}
+        return next((way for way in range(WAYS) if way not in taken), WAYS - 1)
 
     def look_at_requests(self) -> None:
         assert len(self.requests) == len(self.asked), (len(self.requests), len(self.asked))
@@ -146,12 +188,13 @@ class Picture:
             assert mark.findtext(f"{SVG}title") == f"client {asked.client} sends: {asked.words}", place
             lane, server = self.lanes[str(asked.client)], self.lanes[None]
             row = asked.facts + place - 1
+            away = 5 + 3 * self.way(place - 1)
             assert middle(mark) == (lane, edge(row) + ROW // 2), place
-            x, last = lane + 5 if server > lane else lane - 5, edge(self.rows[-1] if asked.end is None else asked.end)
+            x, last = lane + away if server > lane else lane - away, edge(self.rows[-1] if asked.end is None else asked.end)
             way = [((x, edge(row) + ROW // 2), (x, last))]
             assert list(map(ends, mark.findall(f"{SVG}line"))) == way + [((x, last), (server, last))] * asked.is_taken, place
             assert look(mark) == "asking", place
-            assert label(mark) == ((lane + 10, edge(row) + 16), request_label(asked.words)), place
+            assert label(mark) == ((lane + 16, edge(row) + 16), request_label(asked.words)), place
 
     def look_at_arrows(self) -> None:
         sent: dict[str, list[int]] = {}
@@ -185,7 +228,9 @@ class Picture:
             assert bar.get("class") == ("writecaching" if "W" in fact.words[3] else "caching"), place
             assert (number(bar, "y"), number(bar, "height")) == (begin, end - begin), place
             column = 1 + (int(fact.words[2]) - 1) % 8
-            assert (number(bar, "x"), number(bar, "width")) == (self.lanes[fact.client] - 10 * column, 8), place
+            assert (number(bar, "x"), number(bar, "width")) == (self.lanes[fact.client] - 12 - 10 * column, 8), place
+            [file] = [it for it in self.marks[place - 1].findall(f"{SVG}text") if it.get("class") == "file"]
+            assert (file.text, number(file, "x"), number(file, "y")) == (fact.words[2], number(bar, "x") + 1, begin + 10), place
 
     def look_at_lanes(self) -> None:
         """Each reaches from the first row to below the last one."""
@@ -219,6 +264,7 @@ class Picture:
         lines = {fact.line: place for place, fact in enumerate(self.facts, 1)}
         assert self.notes() == explained.splitlines(), (self.notes(), explained)
         self.look_at_marks([lines[int(it)] for it in re.findall(r"^line ([0-9]+): ", explained, re.M)])
+        self.look_at_legend()
         self.look_at_labels()
         self.look_at_comments()
         self.look_at_size()

@@ -2,7 +2,7 @@ ghost use Rattle.std.specs.Prelude.{◌≡◌, length, map, IfOk};
 ghost use Rattle.record_words.specs.pictures.Requests.{asked_from, seen_request};
 
 use crate::pictures::labels::request_label;
-use crate::pictures::lanes::{Lanes, above, at, beside, spot, words_at};
+use crate::pictures::lanes::{Lanes, WAYS, at};
 use crate::pictures::picture::RequestMark;
 use crate::pictures::shape::{Look, Point, Shape};
 use lease_facts::Passage;
@@ -21,17 +21,31 @@ enum End {
     Lost(u16),
 }
 
-// The requests of a picture that are on their way, by their places from 0, and where the others ended.
+// A request that is on its way: whose it is, and its place among all, from 0.
+#[derive(Clone, Copy, Debug)]
+struct Waiting {
+    client: ClientNo,
+    place: usize,
+}
+
+// What is known of the way of a request: where it ends, and which place it has beside its client's line.
+#[derive(Clone, Copy, Debug)]
+struct Journey {
+    end: End,
+    way: usize,
+}
+
+// The requests of a picture, by their places from 0, and which of them are on their way.
 #[derive(Debug, Drop)]
 struct Journeys {
-    ends: Vec<End>,
-    waiting: Vec<(ClientNo, usize)>,
+    all: Vec<Journey>,
+    waiting: Vec<Waiting>,
 }
 
 impl Journeys {
     fn of(alloc: Global, passages: &[Passage]) -> Result<Journeys, Memory> {
         let mut journeys = Journeys {
-            ends: Vec::new(alloc),
+            all: Vec::new(alloc),
             waiting: Vec::new(alloc),
         };
         for passage in passages {
@@ -42,10 +56,7 @@ impl Journeys {
 
     fn note(&mut self, passage: &Passage) -> Result<(), Memory> {
         match passage {
-            Passage::Sent { client, .. } => {
-                self.waiting.push((*client, self.ends.len()))?;
-                self.ends.push(End::OnItsWay)?;
-            }
+            Passage::Sent { client, .. } => self.begin(*client)?,
             Passage::Taken { client, facts } => {
                 let row = self.row(*facts);
                 self.end_first(*client, End::Taken(row));
@@ -58,41 +69,76 @@ impl Journeys {
         Ok(())
     }
 
+    fn begin(&mut self, client: ClientNo) -> Result<(), Memory> {
+        let place = self.all.len();
+        let way = self.free_way(client);
+        self.waiting.push(Waiting { client, place })?;
+        let end = End::OnItsWay;
+        self.all.push(Journey { end, way })?;
+        Ok(())
+    }
+
+    // Whether a request of a client that is on its way has this place beside the client's line.
+    fn has_way(&self, client: ClientNo, way: usize) -> bool {
+        self.waiting.iter().any(|one| one.client == client && self.way_of(one.place) == way)
+    }
+
+    // The first place that no such request has, or the last one of all.
+    fn free_way(&self, client: ClientNo) -> usize {
+        for way in 0..WAYS {
+            if !self.has_way(client, way) {
+                return way;
+            }
+        }
+        WAYS - 1
+    }
+
     // The row below so many facts and the requests that were sent.
     fn row(&self, facts: usize) -> u16 {
-        at(facts.saturating_add(self.ends.len()))
+        at(facts.saturating_add(self.all.len()))
     }
 
     fn end(&mut self, place: usize, end: End) {
-        if let Some(there) = self.ends.get_mut(place) {
-            *there = end;
+        if let Some(there) = self.all.get_mut(place) {
+            there.end = end;
         }
     }
 
     // The oldest request of a client comes to an end.
     fn end_first(&mut self, client: ClientNo, end: End) {
-        let found = self.waiting.iter().position(|one| one.0 == client);
+        let found = self.waiting.iter().position(|one| one.client == client);
         if let Some(index) = found {
-            let (_, place) = self.waiting.remove(index);
-            self.end(place, end);
+            let ended = self.waiting.remove(index);
+            self.end(ended.place, end);
         }
     }
 
     // All requests of a client come to an end.
     fn end_all(&mut self, client: ClientNo, end: End) {
         for index in 0..self.waiting.len() {
-            if let Some((other, place)) = self.waiting.get(index).copied()
-                && other == client
+            if let Some(one) = self.waiting.get(index).copied()
+                && one.client == client
             {
-                self.end(place, end);
+                self.end(one.place, end);
             }
         }
-        self.waiting.retain(|one| one.0 != client);
+        self.waiting.retain(|one| one.client != client);
     }
 
     // Where the request at this place ends.
     fn end_of(&self, place: usize) -> End {
-        self.ends.get(place).copied().unwrap_or(End::OnItsWay)
+        match self.all.get(place) {
+            Some(one) => one.end,
+            None => End::OnItsWay,
+        }
+    }
+
+    // Which place it has beside its client's line.
+    fn way_of(&self, place: usize) -> usize {
+        match self.all.get(place) {
+            Some(one) => one.way,
+            None => 0,
+        }
     }
 }
 
@@ -103,16 +149,17 @@ fn push_way(
     lanes: &Lanes,
     lane: u16,
     row: u16,
+    way: usize,
     end: (u16, bool),
 ) -> Result<(), Memory> {
     let (last, is_taken) = end;
-    let x = beside(lane, lanes.server());
-    let to = above(lanes.server(), last);
+    let x = lanes.beside(lane, lanes.server(), way);
+    let to = lanes.above(lanes.server(), last);
     let turn = Point { x, y: to.y };
     shapes.push(Shape::Line {
         from: Point {
             x,
-            y: spot(lane, row).y,
+            y: lanes.spot(lane, row).y,
         },
         to: turn,
         look: Look::Way,
@@ -152,13 +199,14 @@ impl<'a> Sheet<'a> {
             End::Lost(row) => (row, false),
         };
         let mut shapes = Vec::new(alloc);
-        push_way(&mut shapes, self.lanes, lane, row, end)?;
+        let way = self.journeys.way_of(place);
+        push_way(&mut shapes, self.lanes, lane, row, way, end)?;
         shapes.push(Shape::Circle {
-            at: spot(lane, row),
+            at: self.lanes.spot(lane, row),
             look: Look::Asking,
         })?;
         shapes.push(Shape::Words {
-            at: words_at(lane, row),
+            at: self.lanes.words_at(lane, row),
             text: request_label(alloc, request)?,
             look: Look::Label,
         })?;

@@ -11,11 +11,28 @@ const LEFT: u32 = 60;
 
 const LANE: u32 = 300;
 
-// Room for the words of the last lane.
+// Of more lanes than these each is narrower, so that eight clients are within 1,600 pixels. Words may reach over the next lanes,
+// where nothing else stands in their row.
+const WIDE_LANES: usize = 5;
+
+const NARROW_LANE: u32 = 150;
+
+// Room for the words of the last lane, and more beside narrow lanes.
 const RIGHT: u32 = 60;
 
-// Where in a lane its line runs. Beliefs stand to the left of it, and words to the right.
-const LINE: u16 = 90;
+const NARROW_RIGHT: u32 = 190;
+
+// Where in a lane its line runs. Beliefs stand to the left of it, and words to the right; between these and the line are ways.
+const LINE: u32 = 90;
+
+const WAY: u32 = 5;
+
+const NEXT_WAY: u32 = 3;
+
+const WORDS: u32 = 16;
+
+/// So many ways have a place of their own beside a line.
+pub const WAYS: usize = 3;
 
 const TOP: u32 = 64;
 
@@ -26,6 +43,8 @@ const ROW: u32 = 24;
 #[derive(Debug)]
 pub struct Lanes {
     clients: Vec<ClientNo>,
+    // How wide each is.
+    lane: u32,
 }
 
 // Whether a fact names a client.
@@ -57,6 +76,11 @@ fn place_of(clients: &[ClientNo], client: ClientNo) -> Option<usize> {
     clients.iter().position(|one| one.0 == client.0)
 }
 
+// How wide a lane is beside the server's and those of so many clients.
+fn lane_for(clients: usize) -> u32 {
+    if clients < WIDE_LANES { LANE } else { NARROW_LANE }
+}
+
 // A client that has no lane is told on the first one.
 fn first_of(place: Option<usize>) -> usize {
     match place {
@@ -69,7 +93,8 @@ impl Lanes {
     /// The lanes for these facts.
     pub fn of(alloc: Global, facts: &[Fact]) -> Result<Lanes, AllocError> {
         let clients = clients_of(alloc, facts)?;
-        Ok(Lanes { clients })
+        let lane = lane_for(clients.len());
+        Ok(Lanes { clients, lane })
     }
 
     pub fn clients(&self) -> &[ClientNo] {
@@ -94,7 +119,35 @@ impl Lanes {
 
     /// How wide the lanes are with what stands to their left, in pixels.
     pub fn width(&self) -> u32 {
-        LEFT + LANE * u32::from(at(self.clients.len()).saturating_add(1)) + RIGHT
+        let right = if self.lane < LANE { NARROW_RIGHT } else { RIGHT };
+        LEFT + self.lane.min(LANE) * u32::from(at(self.clients.len()).saturating_add(1)) + right
+    }
+
+    /// Where the line of a lane runs, in pixels from the left of the picture.
+    pub fn line_of(&self, lane: u16) -> u32 {
+        LEFT + self.lane.min(LANE) * u32::from(lane) + LINE
+    }
+
+    /// The point in the middle of a row on the line of a lane.
+    pub fn spot(&self, lane: u16, row: u16) -> Point {
+        Point { x: self.line_of(lane), y: down(row, 12) }
+    }
+
+    /// Next to the line of a lane, on the side of another one and before the words that stand there, in pixels from the left. Ways
+    /// that go there at once have places of their own.
+    pub fn beside(&self, lane: u16, other: u16, place: usize) -> u32 {
+        let away = WAY + NEXT_WAY * u32::from(at(place % WAYS));
+        if other < lane { self.line_of(lane).saturating_sub(away) } else { self.line_of(lane).saturating_add(away) }
+    }
+
+    /// The point on the line of a lane above a row, where no words stand.
+    pub fn above(&self, lane: u16, row: u16) -> Point {
+        Point { x: self.line_of(lane), y: down(row, 0) }
+    }
+
+    /// The point at which a line of text begins that stands to the right of a lane's line.
+    pub fn words_at(&self, lane: u16, row: u16) -> Point {
+        Point { x: self.line_of(lane).saturating_add(WORDS), y: down(row, 16) }
     }
 }
 
@@ -103,37 +156,7 @@ pub fn at(index: usize) -> u16 {
     u16::try_from(index).unwrap_or(u16::MAX)
 }
 
-// So far from the left of a lane, in pixels from the left of the picture.
-fn across(lane: u16, offset: u16) -> u32 {
-    LEFT + LANE * u32::from(lane) + u32::from(offset)
-}
-
 /// So far from the top of a row, in pixels from the top of the picture.
 pub fn down(row: u16, offset: u16) -> u32 {
     TOP + ROW * u32::from(row) + u32::from(offset)
-}
-
-/// Where the line of a lane runs, in pixels from the left.
-pub fn line_of(lane: u16) -> u32 {
-    across(lane, LINE)
-}
-
-/// The point in the middle of a row on the line of a lane.
-pub fn spot(lane: u16, row: u16) -> Point {
-    Point { x: line_of(lane), y: down(row, 12) }
-}
-
-/// Next to the line of a lane, on the side of another one and before the words that stand there, in pixels from the left.
-pub fn beside(lane: u16, other: u16) -> u32 {
-    if other < lane { across(lane, LINE - 5) } else { across(lane, LINE + 5) }
-}
-
-/// The point on the line of a lane above a row, where no words stand.
-pub fn above(lane: u16, row: u16) -> Point {
-    Point { x: line_of(lane), y: down(row, 0) }
-}
-
-/// The point at which a line of text begins that stands to the right of a lane's line.
-pub fn words_at(lane: u16, row: u16) -> Point {
-    Point { x: across(lane, 100), y: down(row, 16) }
 }

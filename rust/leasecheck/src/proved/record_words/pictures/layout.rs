@@ -4,7 +4,7 @@ use std::prelude::{String, Vec, format};
 
 use crate::proved::record_words::pictures::captions::caption_of;
 use crate::proved::record_words::pictures::fault::PictureFault;
-use crate::proved::record_words::pictures::lanes::{Lanes, down, line_of, spot};
+use crate::proved::record_words::pictures::lanes::{Lanes, down};
 use crate::proved::record_words::pictures::marks::{Sheet, shapes_of};
 use crate::proved::record_words::pictures::picture::{Mark, Picture};
 use crate::proved::record_words::pictures::remarks::{remarks_on, widened};
@@ -22,12 +22,29 @@ pub const MOST_FACTS: usize = 5000;
 pub const MOST_REQUESTS: usize = 5000;
 
 // The name of a lane, above its line.
-fn heading(lane: u16, text: String) -> Shape {
-    Shape::Words { at: Point { x: line_of(lane).saturating_sub(30), y: 40 }, text, look: Look::Heading }
+fn heading(lanes: &Lanes, lane: u16, text: String) -> Shape {
+    Shape::Words { at: Point { x: lanes.line_of(lane).saturating_sub(30), y: 46 }, text, look: Look::Heading }
 }
 
-fn line(lane: u16, rows: (u16, u16), look: Look) -> Shape {
-    Shape::Line { from: spot(lane, rows.0), to: spot(lane, rows.1), look }
+fn line(lanes: &Lanes, lane: u16, rows: (u16, u16), look: Look) -> Shape {
+    Shape::Line { from: lanes.spot(lane, rows.0), to: lanes.spot(lane, rows.1), look }
+}
+
+// A sample of a bar, and what it stands for.
+fn push_sample(alloc: Global, shapes: &mut Vec<Shape>, x: u32, look: Look, words: &str) -> Result<(), AllocError> {
+    shapes.push(Shape::Rectangle { at: Point { x, y: 8 }, size: Size { width: 8, height: 12 }, look })?;
+    shapes.push(Shape::Words {
+        at: Point { x: x.saturating_add(14), y: 18 },
+        text: String::from_str(alloc, words)?,
+        look: Look::Number,
+    })?;
+    Ok(())
+}
+
+// What bars stand for, in the first row.
+fn push_legend(alloc: Global, shapes: &mut Vec<Shape>) -> Result<(), AllocError> {
+    push_sample(alloc, shapes, 8, Look::WriteCaching, "believes that it may cache writes")?;
+    push_sample(alloc, shapes, 248, Look::Caching, "believes that it may cache, but not writes; a number is that of the file")
 }
 
 // The row from which a client is connected after the fact in a row, if it is.
@@ -40,18 +57,19 @@ fn connected_after(fact: &Fact, client: ClientNo, row: u16, since: Option<u16>) 
 }
 
 // Adds the times of a client's connections.
-fn push_connections(shapes: &mut Vec<Shape>, rows: &Rows, facts: &[Fact], client: ClientNo, lane: u16) -> Result<(), AllocError> {
+fn push_connections(shapes: &mut Vec<Shape>, sheet: &Sheet<'_>, client: ClientNo, lane: u16) -> Result<(), AllocError> {
     let mut since = None;
-    for (index, fact) in facts.iter().enumerate() {
-        let row = rows.of_fact(index);
+    for (index, fact) in sheet.facts.iter().enumerate() {
+        let row = sheet.rows.of_fact(index);
         let before = since;
         since = connected_after(fact, client, row, before);
         if let (Some(begin), None) = (before, since) {
-            shapes.push(line(lane, (begin, row), Look::Connection))?;
+            shapes.push(line(sheet.lanes, lane, (begin, row), Look::Connection))?;
         }
     }
     if let Some(begin) = since {
-        shapes.push(line(lane, (begin, rows.count()), Look::Connection))?;
+        let rows = (begin, sheet.rows.count());
+        shapes.push(line(sheet.lanes, lane, rows, Look::Connection))?;
     }
     Ok(())
 }
@@ -59,8 +77,10 @@ fn push_connections(shapes: &mut Vec<Shape>, rows: &Rows, facts: &[Fact], client
 // Adds the lane of the server.
 fn push_server(alloc: Global, shapes: &mut Vec<Shape>, sheet: &Sheet<'_>) -> Result<(), AllocError> {
     let lane = sheet.lanes.server();
-    shapes.push(heading(lane, String::from_str(alloc, "server")?))?;
-    shapes.push(line(lane, (0, sheet.rows.count()), Look::Connection))?;
+    let name = String::from_str(alloc, "server")?;
+    shapes.push(heading(sheet.lanes, lane, name))?;
+    let rows = (0, sheet.rows.count());
+    shapes.push(line(sheet.lanes, lane, rows, Look::Connection))?;
     Ok(())
 }
 
@@ -74,14 +94,17 @@ fn client_words(alloc: Global, client: ClientNo) -> Result<String, AllocError> {
 // Adds the lane of a client.
 fn push_client(alloc: Global, shapes: &mut Vec<Shape>, sheet: &Sheet<'_>, client: ClientNo) -> Result<(), AllocError> {
     let lane = sheet.lanes.client(client);
-    shapes.push(heading(lane, client_words(alloc, client)?))?;
-    shapes.push(line(lane, (0, sheet.rows.count()), Look::Lane))?;
-    push_connections(shapes, sheet.rows, sheet.facts, client, lane)
+    let name = client_words(alloc, client)?;
+    shapes.push(heading(sheet.lanes, lane, name))?;
+    let rows = (0, sheet.rows.count());
+    shapes.push(line(sheet.lanes, lane, rows, Look::Lane))?;
+    push_connections(shapes, sheet, client, lane)
 }
 
 // The lanes with their names.
 fn lanes_of(alloc: Global, sheet: &Sheet<'_>) -> Result<Vec<Shape>, AllocError> {
     let mut shapes = Vec::new(alloc);
+    push_legend(alloc, &mut shapes)?;
     push_server(alloc, &mut shapes, sheet)?;
     for client in sheet.lanes.clients() {
         push_client(alloc, &mut shapes, sheet, *client)?;

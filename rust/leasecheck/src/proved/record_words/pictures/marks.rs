@@ -2,7 +2,7 @@
 
 use crate::proved::lease_reasons::Messages;
 use crate::proved::record_words::pictures::labels::label_of;
-use crate::proved::record_words::pictures::lanes::{Lanes, above, beside, down, line_of, spot, words_at};
+use crate::proved::record_words::pictures::lanes::{Lanes, down};
 use crate::proved::record_words::pictures::rows::Rows;
 use crate::proved::record_words::pictures::shape::{Look, Point, Shape, Size};
 use smblease::proved::lease_facts::Fact;
@@ -51,16 +51,28 @@ fn belief_end(facts: &[Fact], from: usize, client: ClientNo, file: FileNo) -> us
     facts.len()
 }
 
-// The bar of a belief, to the left of the client's line. Files beyond the eighth share bars with the first ones.
-fn bar(lane: u16, rows: (u16, u16), file: FileNo, look: Look) -> Shape {
+// Where the bars of a file are, to the left of a client's line, in pixels from the left. Files beyond the eighth share bars with
+// the first ones.
+fn column_of(line: u32, file: FileNo) -> u32 {
+    let column = u32::from(file.0.saturating_sub(1) % 8);
+    line.saturating_sub(22 + 10 * column)
+}
+
+// The bar of a belief.
+fn bar(x: u32, rows: (u16, u16), look: Look) -> Shape {
     let (row, end) = rows;
-    let column = 1 + u32::from(file.0.saturating_sub(1) % 8);
     let (top, bottom) = (down(row, 12), down(end, 12));
-    Shape::Rectangle {
-        at: Point { x: line_of(lane).saturating_sub(10 * column), y: top },
-        size: Size { width: 8, height: bottom.saturating_sub(top) },
-        look,
-    }
+    Shape::Rectangle { at: Point { x, y: top }, size: Size { width: 8, height: bottom.saturating_sub(top) }, look }
+}
+
+// The number of a bar's file, at its top.
+fn file_words(alloc: Global, x: u32, row: u16, file: FileNo) -> Result<Shape, AllocError> {
+    let number = file.0;
+    Ok(Shape::Words {
+        at: Point { x: x.saturating_add(1), y: down(row, 22) },
+        text: format!(in alloc; "{number}")?,
+        look: Look::File,
+    })
 }
 
 fn caching(state: LeaseState) -> Option<Look> {
@@ -82,9 +94,9 @@ fn push_message(alloc: Global, shapes: &mut Vec<Shape>, sheet: Sheet<'_>, index:
         return Ok(());
     };
     let (server, lane) = (sheet.lanes.server(), sheet.lanes.client(client));
-    let x = beside(server, lane);
-    let from = spot(server, sheet.rows.of_fact(sent.saturating_sub(1)));
-    let to = above(lane, sheet.rows.of_fact(index));
+    let x = sheet.lanes.beside(server, lane, 0);
+    let from = sheet.lanes.spot(server, sheet.rows.of_fact(sent.saturating_sub(1)));
+    let to = sheet.lanes.above(lane, sheet.rows.of_fact(index));
     let turn = Point { x, y: to.y };
     shapes.push(Shape::Line { from: Point { x, y: from.y }, to: turn, look: Look::Way })?;
     shapes.push(Shape::Line { from: turn, to, look: Look::Message })?;
@@ -99,7 +111,10 @@ fn push_reach(alloc: Global, shapes: &mut Vec<Shape>, sheet: Sheet<'_>, index: u
             let end = belief_end(sheet.facts, index.saturating_add(1), *client, *file);
             let rows = (sheet.rows.of_fact(index), sheet.rows.of_fact(end));
             if let Some(look) = caching(*state) {
-                shapes.push(bar(sheet.lanes.client(*client), rows, *file, look))?;
+                let line = sheet.lanes.line_of(sheet.lanes.client(*client));
+                let x = column_of(line, *file);
+                shapes.push(bar(x, rows, look))?;
+                shapes.push(file_words(alloc, x, rows.0, *file)?)?;
             }
             Ok(())
         }
@@ -148,7 +163,11 @@ pub fn shapes_of(
     shapes.push(number(alloc, row, index.saturating_add(1))?)?;
     push_reach(alloc, &mut shapes, sheet, index)?;
     let lane = lane_of(sheet.lanes, fact);
-    shapes.push(Shape::Circle { at: spot(lane, row), look: look_of(fact) })?;
-    shapes.push(Shape::Words { at: words_at(lane, row), text: label_of(alloc, fact, message)?, look: Look::Label })?;
+    shapes.push(Shape::Circle { at: sheet.lanes.spot(lane, row), look: look_of(fact) })?;
+    shapes.push(Shape::Words {
+        at: sheet.lanes.words_at(lane, row),
+        text: label_of(alloc, fact, message)?,
+        look: Look::Label,
+    })?;
     Ok(shapes)
 }

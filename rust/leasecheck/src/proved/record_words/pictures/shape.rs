@@ -40,6 +40,8 @@ pub enum Look {
     WriteCaching,
     /// The time of another belief that lets a client cache.
     Caching,
+    /// The number of a belief's file.
+    File,
     /// A fact that none of the others are.
     Event,
     /// A connection or a timer ends.

@@ -6,6 +6,13 @@ use crate::proved::record_words::pictures::shape::{Look, Point, Shape, Size};
 use std::alloc::AllocError;
 use std::prelude::String;
 
+// How many bytes of a remark have room, how many are shown of a longer one, and how many a word has that is taken for digits.
+const ROOM: usize = 62;
+
+const CUT: usize = 58;
+
+const DIGITS: usize = 24;
+
 fn push_escaped_byte(text: &mut String, byte: u8) -> Result<(), AllocError> {
     if byte == b'&' {
         text.push_str("&amp;")
@@ -40,6 +47,7 @@ fn look_word(look: Look) -> &'static str {
         Look::Message => "message",
         Look::WriteCaching => "writecaching",
         Look::Caching => "caching",
+        Look::File => "file",
         Look::Event => "event",
         Look::Loss => "loss",
         Look::Accepted => "accepted",
@@ -144,9 +152,34 @@ fn push_request_marks(text: &mut String, marks: &[RequestMark]) -> Result<(), Al
     Ok(())
 }
 
+// As many of a remark's words as have room beside the lanes. Digits of bytes aren't cut within a byte, and shorter words are whole.
+fn shown_of(words: &[u8]) -> &[u8] {
+    if words.len() <= ROOM {
+        return words;
+    }
+    let (front, _) = words.split_at(CUT);
+    match front.iter().rposition(|byte| *byte == b' ') {
+        Some(space) if CUT - space < DIGITS => words.split_at(space).0,
+        Some(space) => words.split_at(CUT - (CUT - space - 1) % 2).0,
+        None => front,
+    }
+}
+
+// What has no room is in the title, as a whole.
+fn push_remark_words(text: &mut String, words: &[u8]) -> Result<(), AllocError> {
+    let shown = shown_of(words);
+    push_escaped(text, shown)?;
+    if shown.len() < words.len() {
+        text.push_str("...<title>")?;
+        push_escaped(text, words)?;
+        text.push_str("</title>")?;
+    }
+    Ok(())
+}
+
 fn push_remark(text: &mut String, remark: &Remark) -> Result<(), AllocError> {
     push_words_begin(text, Look::Remark, remark.at)?;
-    push_escaped(text, remark.words.as_slice())?;
+    push_remark_words(text, remark.words.as_slice())?;
     text.push_str("</text>\n")
 }
 
@@ -199,6 +232,7 @@ fn push_style(text: &mut String) -> Result<(), AllocError> {
     text.push_str(
         ".way, .message {stroke: #1565c0} .message {marker-end: url(#arrow)} .caching {fill: #a5d6a7} .writecaching {fill: #ffb74d}\n",
     )?;
+    text.push_str(".file {font-size: 9px; stroke: none}\n")?;
     text.push_str(".event {fill: #333} .accepted {fill: #6a1b9a} .cachedread {fill: #2e7d32} .asking {fill: #1565c0}\n")?;
     text.push_str(".loss, .stray {fill: #fff; stroke: #b00020; stroke-width: 2}</style>\n")?;
     text.push_str("<defs><marker id='arrow' markerWidth='9' markerHeight='8' refX='13' refY='4' orient='auto'>\n")?;
