@@ -99,6 +99,7 @@ OUTSIDE: Mapping[str, str] = {
     "bytes": "std::ports::bytes",
     "clap": "crate::ports::clap",
     "hex": "std::ports::hex",
+    "json": "std::ports::json",
     "memchr": "memchr",
     "uuid": "std::ports::uuid",
 }

@@ -15,7 +15,7 @@ RULES = {
     "1": "rule 1: while one client may cache writes of a file, no other caches anything of it",
     "2": "rule 2: a cached read gives the file as it stood when the message that the client took last was sent",
     "3": "rule 3: a buffered write changes its file before another client opens or changes it",
-    "4": "rule 4: a write is reported as done only if it changed its file",
+    "4": "rule 4: a write is settled as done only if it changed its file",
 }
 # where a fact names its client, if it is about one, and its file
 CLIENT = {"opened": 2, "changed": 2, "start": 0}

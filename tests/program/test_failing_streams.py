@@ -25,13 +25,17 @@ def on_file(command: str, path: Path) -> tuple[list[str], tuple[bytes, ...]]:
 
 
 SHORT: dict[str, tuple[list[str], tuple[bytes, ...]]] = {
-    "help": (["--help"], (b"",)), "show": (["show", "ask", ""], (WRITTEN,)), "ack": (["ack", BREAK + "aa"], (WRITTEN,)),
+    "help": (["--help"], (WRITTEN,)), "judge --help": (["judge", "--help"], (WRITTEN,)),
+    "show": (["show", "ask", ""], (WRITTEN,)), "ack": (["ack", BREAK + "aa"], (WRITTEN,)),
     **{f"replay {name}": on_file("replay", TESTS / "schedules" / name) for name in ("break_answered", "raw_requests")},
-    **{f"{command} {name}": on_file(command, TESTS / "records" / name) for command in ("judge", "judge --explain", "draw")
+    **{f"{command} {name}": on_file(command, TESTS / "records" / name)
+       for command in ("judge", "judge --explain", "judge --json", "draw")
        for name in ("every_fact_safe", "two_caches_one_writes", "taken_without_a_message")},
     "draw break_answered": on_file("draw", TESTS / "schedules" / "break_answered"),
     "replay --explain raw_requests": on_file("replay --explain", TESTS / "schedules" / "raw_requests"),
-    "capture two_caches": on_file("capture", TESTS / "captures" / "two_caches"),
+    "replay --json break_answered": on_file("replay --json", TESTS / "schedules" / "break_answered"),
+    **{f"{command} two_caches": on_file(command, TESTS / "captures" / "two_caches")
+       for command in ("capture", "capture --json", "capture --record --json")},
 }
 # Machines, and lines that they answer, one of them with a reason on standard error.
 MACHINES = {

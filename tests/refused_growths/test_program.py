@@ -76,13 +76,13 @@ def test_missing_file(tmp_path: Path, task: str) -> None:
     check_reading(tmp_path, [task], MISSING, 1)
 
 
-@pytest.mark.parametrize("task", [["replay"], ["replay", "--messages"]], ids=" ".join)
+@pytest.mark.parametrize("task", [["replay"], ["replay", "--messages"], ["replay", "--json"]], ids=" ".join)
 @pytest.mark.parametrize("schedule", SCHEDULES, ids=name_of)
 def test_replay(tmp_path: Path, task: list[str], schedule: Path) -> None:
     check_reading(tmp_path, task, schedule, 0)
 
 
-@pytest.mark.parametrize("task", [["judge"], ["judge", "--explain"]], ids=" ".join)
+@pytest.mark.parametrize("task", [["judge"], ["judge", "--explain"], ["judge", "--json"]], ids=" ".join)
 @pytest.mark.parametrize("record", RECORDS, ids=name_of)
 def test_judge(tmp_path: Path, task: list[str], record: Path) -> None:
     check_reading(tmp_path, task, record, VERDICTS[record.name].status)
@@ -94,9 +94,10 @@ def test_draw(tmp_path: Path, path: Path) -> None:
     check_reading(tmp_path, ["draw"], path, int(path.name == "line_that_is_none"))
 
 
+@pytest.mark.parametrize("more", [[], ["--json"], ["--record"], ["--record", "--json"]], ids=" ".join)
 @pytest.mark.parametrize("side", ["client", "server"])
-def test_capture(tmp_path: Path, side: str) -> None:
-    check_reading(tmp_path, ["capture", "--at", side], TESTS / "captures" / "two_caches", 3)
+def test_capture(tmp_path: Path, side: str, more: list[str]) -> None:
+    check_reading(tmp_path, ["capture", "--at", side, *more], TESTS / "captures" / "two_caches", 3)
 
 
 def test_line_of_a_capture_that_is_none(tmp_path: Path) -> None:

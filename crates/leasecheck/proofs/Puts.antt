@@ -92,9 +92,9 @@ may_end_unread (task.Show kind argument) path file failed is fails =
     subst (λ (p : Option (List ℕ)). MayEndBy (shown_fault kind) (string_bytes argument) p file failed) (sym is) (inr (inl fails))
 may_end_unread (task.Replay name telling rules) path file failed is fails = inr (inl fails)
 may_end_unread (task.Judge name) path file failed is fails = inl (inr (inl fails))
-may_end_unread (task.Explain name) path file failed is fails = inr (inl fails)
+may_end_unread (task.Explain name told) path file failed is fails = inr (inl fails)
 may_end_unread (task.Draw name) path file failed is fails = inr (inl fails)
-may_end_unread (task.Capture name side form) path file failed is fails = inr (inl fails)
+may_end_unread (task.Capture name side form told) path file failed is fails = inr (inl fails)
 may_end_unread task.Version path file failed is fails = let no : ⊥ = cc in absurd no
 
 pub unopened : (asked : Task) (path : List ℕ) (old faults told : Option (List ℕ)) (refusal full : Refusal)

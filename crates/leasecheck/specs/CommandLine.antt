@@ -24,6 +24,8 @@ use Rattle.leasecheck.specs.declared.tasks.Asked.{Asked}
 use Rattle.leasecheck.specs.declared.tasks.Asked.TheVariants as asked
 use Rattle.leasecheck.specs.declared.tasks.CaptureForm.{CaptureForm}
 use Rattle.leasecheck.specs.declared.tasks.CaptureForm.TheVariants as form
+use Rattle.leasecheck.specs.declared.tasks.Form.{Form}
+use Rattle.leasecheck.specs.declared.tasks.Form.TheVariants as output
 use Rattle.leasecheck.specs.declared.tasks.Kind.{Kind}
 use Rattle.leasecheck.specs.declared.tasks.Kind.TheVariants as kind
 use Rattle.leasecheck.specs.declared.tasks.Task.TheVariants as task
@@ -77,13 +79,16 @@ show_app kinds = with_rule (with_rule (new_app (codes "show")) (kind_rule kinds)
 abbrev pub rules_rule : ValueParser → Rule
 rules_rule rules = record (new_rule (codes "RULES")) { long = Some (codes "rules"); parser = Some rules }
 
+abbrev pub replay_app_begun : App
+replay_app_begun =
+    with_rule (with_rule (with_rule (new_app (codes "replay")) (needed (codes "FILE"))) (flag (codes "messages"))) (flag (codes "explain"))
+
 abbrev pub replay_app : ValueParser → App
-replay_app rules = with_rule
-    (with_rule (with_rule (with_rule (new_app (codes "replay")) (needed (codes "FILE"))) (flag (codes "messages")))
-    (flag (codes "explain"))) (rules_rule rules)
+replay_app rules = with_rule (with_rule replay_app_begun (flag (codes "json"))) (rules_rule rules)
 
 abbrev pub judge_app : App
-judge_app = with_rule (with_rule (new_app (codes "judge")) (needed (codes "FILE"))) (flag (codes "explain"))
+judge_app =
+    with_rule (with_rule (with_rule (new_app (codes "judge")) (needed (codes "FILE"))) (flag (codes "explain"))) (flag (codes "json"))
 
 abbrev pub draw_app : App
 draw_app = with_rule (new_app (codes "draw")) (needed (codes "FILE"))
@@ -93,7 +98,8 @@ side_rule sides = record (new_rule (codes "SIDE")) { long = Some (codes "at"); p
 
 abbrev pub capture_app : ValueParser → App
 capture_app sides = with_rule
-    (with_rule (with_rule (new_app (codes "capture")) (needed (codes "FILE"))) (side_rule sides)) (flag (codes "record"))
+    (with_rule (with_rule (with_rule (new_app (codes "capture")) (needed (codes "FILE"))) (side_rule sides)) (flag (codes "record")))
+    (flag (codes "json"))
 
 -- a version, no command `help`, and a command has to be named
 abbrev pub with_settings : Shape → Shape
@@ -118,9 +124,9 @@ pub data Request : Type 0 where
   Show : (kind : Kind) (argument : Text) → Request
   Replay : (path : Text) (telling : Telling) (rules : Rules) → Request
   Judge : (path : Text) → Request
-  Explain : (path : Text) → Request
+  Explain : (path : Text) (told : Form) → Request
   Draw : (path : Text) → Request
-  Capture : (path : Text) (side : Side) (form : CaptureForm) → Request
+  Capture : (path : Text) (side : Side) (form : CaptureForm) (told : Form) → Request
   Version : Request
   Clients : Request
   Server : Request
@@ -130,9 +136,9 @@ request_of (asked.Task (task.Ack argument)) = Ack (string_bytes argument)
 request_of (asked.Task (task.Show kind argument)) = Show kind (string_bytes argument)
 request_of (asked.Task (task.Replay path telling rules)) = Replay (string_bytes path) telling rules
 request_of (asked.Task (task.Judge path)) = Judge (string_bytes path)
-request_of (asked.Task (task.Explain path)) = Explain (string_bytes path)
+request_of (asked.Task (task.Explain path told)) = Explain (string_bytes path) told
 request_of (asked.Task (task.Draw path)) = Draw (string_bytes path)
-request_of (asked.Task (task.Capture path side form)) = Capture (string_bytes path) side form
+request_of (asked.Task (task.Capture path side form told)) = Capture (string_bytes path) side form told
 request_of (asked.Task task.Version) = Version
 request_of asked.Clients = Clients
 request_of asked.Server = Server
@@ -164,11 +170,17 @@ abbrev pub is_given : Option Text → Bool
 is_given (Some value) = bytes_eq value (codes "true")
 is_given None = false
 
-abbrev pub telling_of : Bool → Bool → Telling
-telling_of messages explains = record { messages = messages; idle = explains }
+abbrev pub form_told : Bool → Form
+form_told true = output.Json
+form_told false = output.Lines
 
-abbrev pub judged : Bool → Option Text → Option Request
-judged explains path = option_map (λ path. if explains then Explain path else Judge path) path
+abbrev pub telling_of : Bool → Bool → Bool → Telling
+telling_of messages explains json = record { messages = messages; idle = explains; form = form_told json }
+
+-- as an object the verdict always has its reason
+abbrev pub judged : Bool → Bool → Option Text → Option Request
+judged explains json path =
+    option_map (λ path. if json then Explain path output.Json else if explains then Explain path output.Lines else Judge path) path
 
 -- the side that a word stands for; the server where there is none
 abbrev pub side_named : Text → Option Side
@@ -185,9 +197,9 @@ abbrev pub form_of : Bool → CaptureForm
 form_of true = form.Record
 form_of false = form.Findings
 
-abbrev pub captured : CaptureForm → Option Side → Option Text → Option Request
-captured form (Some side) path = option_map (λ path. Capture path side form) path
-captured form None path = None
+abbrev pub captured : CaptureForm → Form → Option Side → Option Text → Option Request
+captured form told (Some side) path = option_map (λ path. Capture path side form told) path
+captured form told None path = None
 
 -- by the name of a command and what was found of its arguments
 unfoldable pub requested : Text → List Row → Option Request
@@ -197,14 +209,16 @@ requested name rows =
     then shown (option_and_then kind_named (first_of (codes "KIND") rows)) (first_of (codes "HEX") rows)
     else if bytes_eq name (codes "replay")
     then replayed
-    (telling_of (is_given (first_of (codes "messages") rows)) (is_given (first_of (codes "explain") rows)))
+    (telling_of (is_given (first_of (codes "messages") rows)) (is_given (first_of (codes "explain") rows))
+    (is_given (first_of (codes "json") rows)))
     (rules_asked (first_of (codes "RULES") rows)) (first_of (codes "FILE") rows)
     else if bytes_eq name (codes "judge")
-    then judged (is_given (first_of (codes "explain") rows)) (first_of (codes "FILE") rows)
+    then judged (is_given (first_of (codes "explain") rows)) (is_given (first_of (codes "json") rows))
+    (first_of (codes "FILE") rows)
     else if bytes_eq name (codes "draw") then option_map Draw (first_of (codes "FILE") rows)
     else if bytes_eq name (codes "capture")
-    then captured (form_of (is_given (first_of (codes "record") rows))) (side_asked (first_of (codes "SIDE") rows))
-    (first_of (codes "FILE") rows)
+    then captured (form_of (is_given (first_of (codes "record") rows))) (form_told (is_given (first_of (codes "json") rows)))
+    (side_asked (first_of (codes "SIDE") rows)) (first_of (codes "FILE") rows)
     else if bytes_eq name (codes "client") then Some Clients
     else if bytes_eq name (codes "server") then Some Server
     else None

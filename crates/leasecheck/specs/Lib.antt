@@ -14,6 +14,7 @@ pub mod Explaining
 pub mod Comments
 pub mod Drawing
 pub mod Capturing
+pub mod Objects
 pub mod Printed
 pub mod Refusals
 pub mod Recording

@@ -10,22 +10,25 @@ use Rattle.leasecheck.specs.declared.refusal.Refusal.{Refusal}
 use Rattle.leasecheck.specs.declared.tasks.Task.{Task}
 use Rattle.leasecheck.specs.declared.tasks.Task.TheVariants as task
 use Rattle.leasecheck.specs.declared.printing.Made.{Made}
-use Rattle.leasecheck.specs.declared.printing.Made.TheVariants.{Text, Record}
+use Rattle.leasecheck.specs.declared.printing.Made.TheVariants.{Text, Record, Object}
 
 -- its text
 abbrev pub text_made : Made → List ℕ
 text_made (Text printed) = string_bytes printed.text
 text_made (Record one) = recorded_text one
+text_made (Object one) = one.text.items
 
 -- whether it is a record, which is written as it is told
 abbrev pub is_record : Made → Bool
 is_record (Text printed) = false
 is_record (Record one) = true
+is_record (Object one) = false
 
 -- the exit status
 abbrev pub status_made : Made → ℕ
 status_made (Text printed) = printed.status
 status_made (Record one) = 0
+status_made (Object one) = one.status
 
 -- ---- what a task answers
 
@@ -44,9 +47,9 @@ IsGiven (task.Ack argument) file given = Gives (string_bytes argument) file give
 IsGiven (task.Show kind argument) file given = Gives (string_bytes argument) file given
 IsGiven (task.Replay path telling rules) file given = given ≡ file
 IsGiven (task.Judge path) file given = given ≡ file
-IsGiven (task.Explain path) file given = given ≡ file
+IsGiven (task.Explain path told) file given = given ≡ file
 IsGiven (task.Draw path) file given = given ≡ file
-IsGiven (task.Capture path side form) file given = given ≡ file
+IsGiven (task.Capture path side form told) file given = given ≡ file
 IsGiven task.Version file given = ⊤
 
 -- What a task has printed whose file has these bytes, or how it ends.

@@ -26,6 +26,8 @@ use Rattle.leasecheck.specs.declared.failure.Failure.{Failure}
 use Rattle.leasecheck.specs.declared.refusal.Refusal.{Refusal}
 use Rattle.leasecheck.specs.declared.failure.Failure.TheVariants.{Hex, Wire, File, Lines, Line, Run, Picture, Memory, Output}
 use Rattle.lease_world.specs.declared.setup.RunFault.TheVariants as run
+use Rattle.leasecheck.specs.declared.tasks.Form.{Form}
+use Rattle.leasecheck.specs.declared.tasks.Form.TheVariants as form
 use Rattle.leasecheck.specs.declared.tasks.Kind.{Kind}
 use Rattle.leasecheck.specs.declared.tasks.Kind.TheVariants as kind
 use Rattle.leasecheck.specs.declared.tasks.Task.{Task}
@@ -89,9 +91,9 @@ refusal_of (task.Show kind argument) file =
     given_refusal (shown_fault kind) (string_bytes argument) (file_named (string_bytes argument)) file
 refusal_of (task.Replay path telling rules) file = replay_refusal file
 refusal_of (task.Judge path) file = line_refusal (record_in file)
-refusal_of (task.Explain path) file = line_refusal (record_in file)
+refusal_of (task.Explain path told) file = line_refusal (record_in file)
 refusal_of (task.Draw path) file = draw_refusal file
-refusal_of (task.Capture path side form) file = line_refusal (capture_in file)
+refusal_of (task.Capture path side form told) file = line_refusal (capture_in file)
 refusal_of task.Version file = None
 
 -- It is refused whatever bytes its reader may have.
@@ -122,9 +124,9 @@ MayEnd (task.Ack argument) file failure = MayEndGiven (message_fault 44) (string
 MayEnd (task.Show kind argument) file failure = MayEndGiven (shown_fault kind) (string_bytes argument) file failure
 MayEnd (task.Replay path telling rules) file failure = MayEndReading (replay_refusal file) failure
 MayEnd (task.Judge path) file failure = MayEndJudging file failure
-MayEnd (task.Explain path) file failure = MayEndReading (line_refusal (record_in file)) failure
+MayEnd (task.Explain path told) file failure = MayEndReading (line_refusal (record_in file)) failure
 MayEnd (task.Draw path) file failure = MayEndReading (draw_refusal file) failure
-MayEnd (task.Capture path side form) file failure = MayEndReading (line_refusal (capture_in file)) failure
+MayEnd (task.Capture path side form told) file failure = MayEndReading (line_refusal (capture_in file)) failure
 MayEnd task.Version file failure = failure ≡ Memory
 
 -- a writer whose bytes are known has got a beginning of a text
@@ -135,8 +137,13 @@ Begins old new text = (part : List ℕ) × (rest : List ℕ) × (text ≡ part +
 abbrev pub Puts : {T E : Type 0} → Option (List ℕ) → Option (List ℕ) → List ℕ → Result T E → Type 0
 Puts old new text answer = MatchResult answer (λ _. Appends old new text) (λ _. Begins old new text)
 
+abbrev pub is_lines : Form → Bool
+is_lines form.Lines = true
+is_lines form.Json = false
+
+-- whether what it prints is written as it is told
 abbrev pub is_replay : Task → Bool
-is_replay (task.Replay path telling rules) = true
+is_replay (task.Replay path telling rules) = is_lines telling.form
 is_replay asked = false
 
 -- why a task stops in the middle of its text: a write failed, or there was no memory for the rest of a record

@@ -69,29 +69,39 @@ fn findings_of(alloc: Global, report: &Report) -> Result<String, AllocError> {
     Ok(text)
 }
 
-/// What `leasecheck capture` prints for a capture that was made at this side of its connections: the verdict, and what is found.
+/// What is found in a capture that was made at this side of its connections, a line for each finding, and the verdict.
 ///
 /// # Errors
 ///
 /// `Line` with the number of the first line that is refused, and what is said of that, and `Memory` where there is none left.
-pub fn capture_text(
+pub fn capture_findings(
     alloc: Global,
     side: Side,
     text: &[u8],
 ) -> Result<(String, CaptureVerdict), Refusal>
-    ensures told { IfOk result (λ answer. (findings : List ℕ)
-        × (string_bytes answer.0 ≡ capture_line answer.1 ++ findings) × IsVerdictOnCapture side text.now answer.1) }
+    ensures told { IfOk result (λ answer. IsVerdictOnCapture side text.now answer.1) }
     ensures accepted { OnOk result (line_refusal (capture_in text.now) ≡ None) }
     ensures refused { IfErr result (λ told. (told.failure ≡ Failure.Memory)
         ⊎ (line_refusal (capture_in text.now) ≡ Some told.failure)) }
 {
     let report = capture_of(alloc, side, text)?.report(alloc)?;
     let verdict = report.verdict();
-    let mut told = String::new(alloc);
-    push_verdict(&mut told, verdict)?;
     let findings = findings_of(alloc, &report)?;
-    told.push_str(findings.as_str())?;
-    Ok((told, verdict))
+    Ok((findings, verdict))
+}
+
+/// What `leasecheck capture` prints of these: the line of the verdict, and the findings.
+pub fn findings_text(
+    alloc: Global,
+    verdict: CaptureVerdict,
+    findings: &str,
+) -> Result<String, AllocError>
+    ensures { IfOk result (λ text. string_bytes text ≡ capture_line verdict ++ findings.now) }
+{
+    let mut text = String::new(alloc);
+    push_verdict(&mut text, verdict)?;
+    text.push_str(findings)?;
+    Ok(text)
 }
 
 fn push_lines(text: &mut String, lines: &[RecordLine]) -> Result<(), AllocError>

@@ -7,13 +7,13 @@ ghost use Rattle.clap.specs.declared.builder.value_parser.ValueParser.{ValuePars
 ghost use Rattle.clap.specs.declared.error.kind.ErrorKind.TheVariants as kind;
 ghost use Rattle.leasecheck.specs.CommandLine.{Request, Errs, Parsers, TakesWords, Parses, AsksFor, IsUsageOf, needed, flag};
 ghost use Rattle.leasecheck.specs.CommandLine.{kind_rule, kind_words, rules_rule, rules_words, rules_asked};
-ghost use Rattle.leasecheck.specs.CommandLine.{ack_app, show_app, replay_app, judge_app, draw_app, bare_app, leasecheck_app};
+ghost use Rattle.leasecheck.specs.CommandLine.{ack_app, show_app, replay_app, replay_app_begun, judge_app, draw_app, bare_app, leasecheck_app};
 ghost use Rattle.leasecheck.specs.CommandLine.{kind_named, telling_of, is_given, judged, replayed, requested, requested_by};
 ghost use Rattle.leasecheck.specs.CommandLine.{request_of, all_words, shown};
-ghost use Rattle.leasecheck.specs.CommandLine.{capture_app, captured, form_of, side_asked, side_named, side_rule, side_words};
+ghost use Rattle.leasecheck.specs.CommandLine.{capture_app, captured, form_of, form_told, side_asked, side_named, side_rule, side_words};
 
 use crate::help;
-use crate::tasks::{Asked, CaptureForm, Kind, Task, Telling, Usage, VERSION};
+use crate::tasks::{Asked, CaptureForm, Form, Kind, Task, Telling, Usage, VERSION};
 use capture_texts::Side;
 use clap::error::ErrorKind;
 use clap::{Arg, ArgAction, ArgMatches, Command, Error};
@@ -112,9 +112,9 @@ fn rules_argument<'a>(alloc: Global) -> Arg<'a>
         .help("The rules of the server; the profile's are by-client,as-free")
 }
 
-fn replay_command<'a>(alloc: Global) -> Result<Command<'a>, AllocError>
-    ensures { IfOk result (λ command. (rules : ValueParser) × TakesWords rules_words rules × (app_of command ≡ replay_app rules)
-        × ((fields_of command).has_globals ≡ false)) }
+// The command without its last two arguments.
+fn replay_begun<'a>(alloc: Global) -> Result<Command<'a>, AllocError>
+    ensures { IfOk result (λ command. (app_of command ≡ replay_app_begun) × ((fields_of command).has_globals ≡ false)) }
 {
     let about = "Prints the record of the run that a schedule asks for";
     let file = file_argument(alloc, "The schedule; - is standard input");
@@ -126,7 +126,15 @@ fn replay_command<'a>(alloc: Global) -> Result<Command<'a>, AllocError>
     command(alloc, "replay", about, help::REPLAY, help::REPLAY_END)
         .arg(file)?
         .arg(messages)?
-        .arg(explain)?
+        .arg(explain)
+}
+
+fn replay_command<'a>(alloc: Global) -> Result<Command<'a>, AllocError>
+    ensures { IfOk result (λ command. (rules : ValueParser) × TakesWords rules_words rules × (app_of command ≡ replay_app rules)
+        × ((fields_of command).has_globals ≡ false)) }
+{
+    replay_begun(alloc)?
+        .arg(json_argument(alloc))?
         .arg(rules_argument(alloc))
 }
 
@@ -140,6 +148,16 @@ fn explain_argument<'a>(alloc: Global, help: &'a str) -> Arg<'a>
         .help(help)
 }
 
+fn json_argument<'a>(alloc: Global) -> Arg<'a>
+    ensures rule { rule_of result ≡ flag (codes "json") }
+    ensures own { result.global ≡ false }
+{
+    Arg::new(alloc, "json")
+        .long("json")
+        .action(ArgAction::SetTrue)
+        .help("Prints the same as one JSON object, in one line")
+}
+
 fn judge_command<'a>(alloc: Global) -> Result<Command<'a>, AllocError>
     ensures { IfOk result (λ command. (app_of command ≡ judge_app) × ((fields_of command).has_globals ≡ false)) }
 {
@@ -148,7 +166,8 @@ fn judge_command<'a>(alloc: Global) -> Result<Command<'a>, AllocError>
     let explain = explain_argument(alloc, "Says why, by the lines of the facts that make it so");
     command(alloc, "judge", about, help::JUDGE, help::JUDGE_END)
         .arg(file)?
-        .arg(explain)
+        .arg(explain)?
+        .arg(json_argument(alloc))
 }
 
 fn draw_command<'a>(alloc: Global) -> Result<Command<'a>, AllocError>
@@ -191,7 +210,8 @@ fn capture_command<'a>(alloc: Global) -> Result<Command<'a>, AllocError>
     command(alloc, "capture", about, help::CAPTURE, help::CAPTURE_END)
         .arg(file)?
         .arg(side_argument(alloc))?
-        .arg(record_argument(alloc))
+        .arg(record_argument(alloc))?
+        .arg(json_argument(alloc))
 }
 
 fn client_command<'a>(alloc: Global) -> Command<'a>
@@ -320,13 +340,26 @@ fn is_given(given: &ArgMatches, name: &str) -> bool
     }
 }
 
+// Lines, where no JSON is wanted.
+fn form_told(given: &ArgMatches) -> Form
+    ensures { result ≡ form_told (is_given (first_of (codes "json") (rows_of (found_of given.now)))) }
+{
+    if is_given(given, "json") {
+        Form::Json
+    } else {
+        Form::Lines
+    }
+}
+
 fn telling_of(given: &ArgMatches) -> Telling
     ensures { result ≡ telling_of (is_given (first_of (codes "messages") (rows_of (found_of given.now))))
-        (is_given (first_of (codes "explain") (rows_of (found_of given.now)))) }
+        (is_given (first_of (codes "explain") (rows_of (found_of given.now))))
+        (is_given (first_of (codes "json") (rows_of (found_of given.now)))) }
 {
     Telling {
         messages: is_given(given, "messages"),
         idle: is_given(given, "explain"),
+        form: form_told(given),
     }
 }
 
@@ -389,7 +422,8 @@ fn show_asked(alloc: Global, given: &ArgMatches) -> Result<Option<Asked>, AllocE
 fn replay_asked(alloc: Global, given: &ArgMatches) -> Result<Option<Asked>, AllocError>
     ensures { IfOk result (λ found. option_map request_of found
         ≡ replayed (telling_of (is_given (first_of (codes "messages") (rows_of (found_of given.now))))
-        (is_given (first_of (codes "explain") (rows_of (found_of given.now)))))
+        (is_given (first_of (codes "explain") (rows_of (found_of given.now))))
+        (is_given (first_of (codes "json") (rows_of (found_of given.now)))))
         (rules_asked (first_of (codes "RULES") (rows_of (found_of given.now))))
         (first_of (codes "FILE") (rows_of (found_of given.now)))) }
 {
@@ -406,13 +440,16 @@ fn replay_asked(alloc: Global, given: &ArgMatches) -> Result<Option<Asked>, Allo
 fn judge_asked(alloc: Global, given: &ArgMatches) -> Result<Option<Asked>, AllocError>
     ensures { IfOk result (λ found. option_map request_of found
         ≡ judged (is_given (first_of (codes "explain") (rows_of (found_of given.now))))
+        (is_given (first_of (codes "json") (rows_of (found_of given.now))))
         (first_of (codes "FILE") (rows_of (found_of given.now)))) }
 {
-    let explains = is_given(given, "explain");
+    let (explains, json) = (is_given(given, "explain"), is_given(given, "json"));
     match owned(alloc, given, "FILE")? {
         Some(path) => {
-            if explains {
-                Ok(Some(Asked::Task(Task::Explain(path))))
+            if json {
+                Ok(Some(Asked::Task(Task::Explain(path, Form::Json))))
+            } else if explains {
+                Ok(Some(Asked::Task(Task::Explain(path, Form::Lines))))
             } else {
                 Ok(Some(Asked::Task(Task::Judge(path))))
             }
@@ -445,15 +482,16 @@ fn form_of(given: &ArgMatches) -> CaptureForm
 fn capture_asked(alloc: Global, given: &ArgMatches) -> Result<Option<Asked>, AllocError>
     ensures { IfOk result (λ found. option_map request_of found
         ≡ captured (form_of (is_given (first_of (codes "record") (rows_of (found_of given.now)))))
+        (form_told (is_given (first_of (codes "json") (rows_of (found_of given.now)))))
         (side_asked (first_of (codes "SIDE") (rows_of (found_of given.now))))
         (first_of (codes "FILE") (rows_of (found_of given.now)))) }
 {
-    let form = form_of(given);
+    let (form, told) = (form_of(given), form_told(given));
     let Some(side) = side_given(given) else {
         return Ok(None);
     };
     match owned(alloc, given, "FILE")? {
-        Some(path) => Ok(Some(Asked::Task(Task::Capture(path, side, form)))),
+        Some(path) => Ok(Some(Asked::Task(Task::Capture(path, side, form, told)))),
         None => Ok(None),
     }
 }

@@ -13,7 +13,7 @@ use crate::remarks::line_at;
 use lease_texts::TextFault;
 use lease_world::{Verdict, judge};
 use record_words::{Placed, push_explanation, read_placed};
-use std::alloc::Global;
+use std::alloc::{AllocError, Global};
 
 /// The facts of a text, with their lines.
 ///
@@ -32,14 +32,13 @@ pub(crate) fn placed_of(alloc: Global, text: &[u8]) -> Result<Placed, Refusal>
     }
 }
 
-/// What `leasecheck judge --explain` prints for the text of a record: the verdict, and the facts that make it so.
+/// Why the text of a record has its verdict: the facts that make it so, and the verdict.
 ///
 /// # Errors
 ///
 /// `Line` with the number of the first line that is refused, and what is said of that, and `Memory` where there is none left.
-pub fn explain_text(alloc: Global, text: &[u8]) -> Result<(String, Verdict), Refusal>
-    ensures told { IfOk result (λ answer. (explanation : List ℕ)
-        × (string_bytes answer.0 ≡ verdict_line answer.1 ++ explanation) × ExplainsVerdict text.now answer.1 explanation) }
+pub fn explanation_of(alloc: Global, text: &[u8]) -> Result<(String, Verdict), Refusal>
+    ensures told { IfOk result (λ answer. ExplainsVerdict text.now answer.1 (string_bytes answer.0)) }
     ensures accepted { OnOk result (line_refusal (record_in text.now) ≡ None) }
     ensures refused { IfErr result (λ told. (told.failure ≡ Failure.Memory)
         ⊎ (line_refusal (record_in text.now) ≡ Some told.failure)) }
@@ -47,7 +46,20 @@ pub fn explain_text(alloc: Global, text: &[u8]) -> Result<(String, Verdict), Ref
     let placed = placed_of(alloc, text)?;
     let verdict = judge(alloc, placed.facts.as_slice())?;
     let mut told = String::new(alloc);
-    push_verdict(&mut told, &verdict)?;
     push_explanation(alloc, &mut told, &placed, &verdict)?;
     Ok((told, verdict))
+}
+
+/// What `leasecheck judge --explain` prints of these: the line of the verdict, and the explanation.
+pub fn reason_text(
+    alloc: Global,
+    verdict: &Verdict,
+    explanation: &str,
+) -> Result<String, AllocError>
+    ensures { IfOk result (λ text. string_bytes text ≡ verdict_line verdict.now ++ explanation.now) }
+{
+    let mut text = String::new(alloc);
+    push_verdict(&mut text, verdict)?;
+    text.push_str(explanation)?;
+    Ok(text)
 }

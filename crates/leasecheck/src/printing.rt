@@ -12,30 +12,37 @@ ghost use Rattle.leasecheck.specs.Drawing.{draw_refusal};
 ghost use Rattle.leasecheck.specs.Known.{OfBytes};
 ghost use Rattle.leasecheck.specs.Made.{Answers, AnswersTo, IsGiven, PrintsOrEnds, is_record, text_made, status_made};
 ghost use Rattle.leasecheck.specs.Paths.{file_named};
-ghost use Rattle.leasecheck.specs.Printed.{Prints, TellsCapture, TellsReason, TellsVerdict};
+ghost use Rattle.leasecheck.specs.Printed.{Prints, TellsCapture, TellsReason, TellsRun, TellsVerdict};
+ghost use Rattle.leasecheck.specs.Printed.{capture_record_text, reason_text, run_text};
+ghost use Rattle.leasecheck.specs.Printed.{findings_text as findings_told};
+ghost use Rattle.leasecheck.specs.Capturing.{capture_status};
+ghost use Rattle.leasecheck.specs.Recording.{recorded_text};
 ghost use Rattle.leasecheck.specs.Refusals.{Begins, Ends, IsRefused, MayEnd, MayEndGiven, MayEndJudging, MayEndReading, MayStop};
-ghost use Rattle.leasecheck.specs.Refusals.{Puts, failure_line, given_refusal, is_replay, line_refusal, second_of, shown_fault};
-ghost use Rattle.leasecheck.specs.Replayed.{Replays, replay_refusal};
+ghost use Rattle.leasecheck.specs.Refusals.{Puts, failure_line, given_refusal, is_lines, is_replay, line_refusal, second_of, shown_fault};
+ghost use Rattle.leasecheck.specs.Replayed.{replay_refusal, status_of};
 ghost use Rattle.leasecheck.specs.Shown.{Shows};
 
-use crate::capturing::{capture_record, capture_text};
+use crate::capturing::{capture_findings, capture_record, findings_text};
 use crate::drawing::draw_text;
-use crate::explaining::explain_text;
+use crate::explaining::{explanation_of, reason_text};
 use crate::failure::Failure;
 use crate::judging::{judge_text, push_verdict, status_of};
+use crate::objects::{capture_object, record_object};
 use crate::reading::read_all;
-use crate::recording::{Record, write_record};
+use crate::recording::{Record, record_text, write_record};
 use crate::refusal::Refusal;
 use crate::replaying::replay;
-use crate::tasks::{CaptureForm, Kind, Task, Telling, VERSION, file_named};
+use crate::tasks::{CaptureForm, Form, Kind, Task, Telling, VERSION, file_named};
 use crate::wire::{ack_lines, render};
 use crate::{capturing, hexadecimal};
 use arrayvec::ArrayString;
-use capture_texts::Side;
+use capture_texts::{CaptureVerdict, Side};
 use lease_state::Rules;
-use std::alloc::Global;
+use lease_world::Verdict;
+use std::alloc::{AllocError, Global};
 use std::fmt::Write as _;
 use std::io::{ErrorKind, Read, Write};
+use std::str::from_utf8;
 
 // More bytes than the line of any failure has.
 const LINE: usize = 80;
@@ -47,12 +54,20 @@ struct Printed {
     status: u8,
 }
 
+// A JSON object that a task prints, and the exit status.
+#[derive(Drop)]
+struct Object {
+    text: Vec<u8>,
+    status: u8,
+}
+
 // What a task has made before anything is written.
 #[derive(Drop)]
 enum Made {
     Text(Printed),
     /// Its text is made as it is written.
     Record(Record),
+    Object(Object),
 }
 
 fn done(text: String) -> Printed
@@ -100,9 +115,9 @@ fn given_to<I: Read>(alloc: Global, task: &Task, input: &mut I) -> Result<Vec<u8
         Task::Version => Ok(Vec::new(alloc)),
         Task::Replay(_, _, _)
         | Task::Judge(_)
-        | Task::Explain(_)
+        | Task::Explain(_, _)
         | Task::Draw(_)
-        | Task::Capture(_, _, _) => {
+        | Task::Capture(_, _, _, _) => {
             let bytes = read_all(alloc, input)?;
             Ok(bytes)
         }
@@ -135,24 +150,69 @@ fn shown(alloc: Global, kind: Kind, given: &[u8]) -> Result<Made, Refusal>
     }
 }
 
+// A run in the form in which it is told.
+fn run_made(alloc: Global, form: Form, ran: Record) -> Result<Made, Failure>
+    ensures text { IfOk result (λ made. (text_made made ≡ run_text form (recorded_text ran)) × (status_made made ≡ 0)) }
+    ensures record { IfOk result (λ made. is_record made ≡ is_lines form) }
+    ensures failed { IfErr result (λ failure. failure ≡ Failure.Memory) }
+{
+    match form {
+        Form::Lines => Ok(Made::Record(ran)),
+        Form::Json => {
+            let record = record_text(alloc, &ran)?;
+            // (it is put together of text, so this is never refused)
+            let Ok(lines) = from_utf8(record.as_slice()) else {
+                return Err(Failure::Memory);
+            };
+            let text = record_object(alloc, &Verdict::Safe, "record", lines)?;
+            Ok(Made::Object(Object { text, status: 0 }))
+        }
+    }
+}
+
 fn replayed(alloc: Global, telling: Telling, rules: Rules, schedule: &[u8]) -> Result<Made, Refusal>
-    ensures answers { Answers (λ text status. (status ≡ 0) × Replays telling rules schedule.now text) (replay_refusal schedule.now)
-        (MayEndReading (replay_refusal schedule.now)) result }
-    ensures record { IfOk result (λ made. is_record made ≡ true) }
+    ensures answers { Answers (λ text status. (status ≡ 0) × TellsRun telling rules schedule.now text)
+        (replay_refusal schedule.now) (MayEndReading (replay_refusal schedule.now)) result }
+    ensures record { IfOk result (λ made. is_record made ≡ is_lines telling.form) }
 {
     let ran = replay(alloc, telling, rules, schedule)?;
-    Ok(Made::Record(ran))
+    let made = run_made(alloc, telling.form, ran)?;
+    Ok(made)
+}
+
+// A verdict with what explains it.
+fn reason_made(
+    alloc: Global,
+    form: Form,
+    verdict: &Verdict,
+    explanation: &str,
+) -> Result<Made, AllocError>
+    ensures text { IfOk result (λ made. (text_made made ≡ reason_text form verdict.now explanation.now)
+        × (status_made made ≡ status_of verdict.now)) }
+    ensures record { IfOk result (λ made. is_record made ≡ false) }
+{
+    let status = status_of(verdict);
+    match form {
+        Form::Lines => {
+            let text = reason_text(alloc, verdict, explanation)?;
+            Ok(Made::Text(Printed { text, status }))
+        }
+        Form::Json => {
+            let text = record_object(alloc, verdict, "explanation", explanation)?;
+            Ok(Made::Object(Object { text, status }))
+        }
+    }
 }
 
 // The verdict on a record, and why it is that.
-fn explained(alloc: Global, bytes: &[u8]) -> Result<Made, Refusal>
-    ensures answers { Answers (TellsReason bytes.now) (line_refusal (record_in bytes.now))
+fn explained(alloc: Global, form: Form, bytes: &[u8]) -> Result<Made, Refusal>
+    ensures answers { Answers (TellsReason form bytes.now) (line_refusal (record_in bytes.now))
         (MayEndReading (line_refusal (record_in bytes.now))) result }
     ensures record { IfOk result (λ made. is_record made ≡ false) }
 {
-    let (text, verdict) = explain_text(alloc, bytes)?;
-    let status = status_of(&verdict);
-    Ok(Made::Text(Printed { text, status }))
+    let (explanation, verdict) = explanation_of(alloc, bytes)?;
+    let made = reason_made(alloc, form, &verdict, explanation.as_str())?;
+    Ok(made)
 }
 
 // The picture of a record, or of the run of a schedule.
@@ -165,18 +225,78 @@ fn drawn(alloc: Global, file: &[u8]) -> Result<Made, Refusal>
     Ok(Made::Text(done(text)))
 }
 
-// The verdict on a capture, and what is found in it.
-fn captured(alloc: Global, side: Side, form: CaptureForm, text: &[u8]) -> Result<Made, Refusal>
-    ensures answers { Answers (TellsCapture form side text.now) (line_refusal (capture_in text.now))
+// The verdict on a capture, with what is found in it.
+fn findings_made(
+    alloc: Global,
+    form: Form,
+    verdict: CaptureVerdict,
+    findings: &str,
+) -> Result<Made, AllocError>
+    ensures text { IfOk result (λ made. (text_made made ≡ findings_told form verdict findings.now)
+        × (status_made made ≡ capture_status verdict)) }
+    ensures record { IfOk result (λ made. is_record made ≡ false) }
+{
+    let status = capturing::status_of(verdict);
+    match form {
+        Form::Lines => {
+            let text = findings_text(alloc, verdict, findings)?;
+            Ok(Made::Text(Printed { text, status }))
+        }
+        Form::Json => {
+            let text = capture_object(alloc, verdict, "findings", findings)?;
+            Ok(Made::Object(Object { text, status }))
+        }
+    }
+}
+
+// The verdict on a capture, with the record of it.
+fn capture_record_made(
+    alloc: Global,
+    form: Form,
+    verdict: CaptureVerdict,
+    lines: String,
+) -> Result<Made, AllocError>
+    ensures text { IfOk result (λ made. (text_made made ≡ capture_record_text form verdict (string_bytes lines))
+        × (status_made made ≡ capture_status verdict)) }
+    ensures record { IfOk result (λ made. is_record made ≡ false) }
+{
+    let status = capturing::status_of(verdict);
+    match form {
+        Form::Lines => Ok(Made::Text(Printed {
+            text: lines,
+            status,
+        })),
+        Form::Json => {
+            let text = capture_object(alloc, verdict, "record", lines.as_str())?;
+            Ok(Made::Object(Object { text, status }))
+        }
+    }
+}
+
+// The verdict on a capture, and what is found in it or the record of it.
+fn captured(
+    alloc: Global,
+    side: Side,
+    kind: CaptureForm,
+    form: Form,
+    text: &[u8],
+) -> Result<Made, Refusal>
+    ensures answers { Answers (TellsCapture kind form side text.now) (line_refusal (capture_in text.now))
         (MayEndReading (line_refusal (capture_in text.now))) result }
     ensures record { IfOk result (λ made. is_record made ≡ false) }
 {
-    let (text, verdict) = match form {
-        CaptureForm::Findings => capture_text(alloc, side, text)?,
-        CaptureForm::Record => capture_record(alloc, side, text)?,
-    };
-    let status = capturing::status_of(verdict);
-    Ok(Made::Text(Printed { text, status }))
+    match kind {
+        CaptureForm::Findings => {
+            let (findings, verdict) = capture_findings(alloc, side, text)?;
+            let made = findings_made(alloc, form, verdict, findings.as_str())?;
+            Ok(made)
+        }
+        CaptureForm::Record => {
+            let (record, verdict) = capture_record(alloc, side, text)?;
+            let made = capture_record_made(alloc, form, verdict, record)?;
+            Ok(made)
+        }
+    }
 }
 
 // All that a task prints which goes by these bytes.
@@ -192,9 +312,9 @@ fn made_of(alloc: Global, task: &Task, given: &[u8]) -> Result<Made, Refusal>
             let mut left = given;
             judged(alloc, &mut left)
         }
-        Task::Explain(_) => explained(alloc, given),
+        Task::Explain(_, form) => explained(alloc, *form, given),
         Task::Draw(_) => drawn(alloc, given),
-        Task::Capture(_, side, form) => captured(alloc, *side, *form, given),
+        Task::Capture(_, side, kind, form) => captured(alloc, *side, *kind, *form, given),
         Task::Version => Ok(Made::Text(done(String::from_str(alloc, VERSION)?))),
     }
 }
@@ -245,14 +365,22 @@ pub(crate) fn put<W: Write>(text: &[u8], out: &mut W) -> Result<(), Failure>
     Err(Failure::Output)
 }
 
+fn print_bytes<O: Write>(bytes: &[u8], out: &mut O) -> Result<(), Failure>
+    ensures ok { OnOk result (Appends (O.contents out.old) (O.contents out.new) bytes.now) }
+    ensures refused { IfErr result
+        (λ failure. (failure ≡ Failure.Output) × Begins (O.contents out.old) (O.contents out.new) bytes.now) }
+{
+    put(bytes, out)?;
+    out.flush().map_err(|_| Failure::Output)?;
+    Ok(())
+}
+
 pub(crate) fn print_text<O: Write>(text: &str, out: &mut O) -> Result<(), Failure>
     ensures ok { OnOk result (Appends (O.contents out.old) (O.contents out.new) text.now) }
     ensures refused { IfErr result
         (λ failure. (failure ≡ Failure.Output) × Begins (O.contents out.old) (O.contents out.new) text.now) }
 {
-    put(text.as_bytes(), out)?;
-    out.flush().map_err(|_| Failure::Output)?;
-    Ok(())
+    print_bytes(text.as_bytes(), out)
 }
 
 // Writes what a task has made, and gives the exit status.
@@ -271,6 +399,10 @@ fn print_made<O: Write>(alloc: Global, made: &Made, out: &mut O) -> Result<u8, F
             Ok(()) => Ok(0),
             Err(failure) => Err(failure),
         },
+        Made::Object(object) => {
+            print_bytes(object.text.as_slice(), out)?;
+            Ok(object.status)
+        }
     }
 }
 

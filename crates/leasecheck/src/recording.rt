@@ -175,6 +175,22 @@ fn write_facts<'a, O: Write>(
     Ok(idle)
 }
 
+/// The text of a record as a whole.
+///
+/// # Errors
+///
+/// `Memory` where there is none left.
+pub fn record_text(alloc: Global, recorded: &Record) -> Result<Vec<u8>, Failure>
+    ensures text { IfOk result (λ text. text.items ≡ recorded_text recorded.now) }
+    ensures failed { IfErr result (λ failure. failure ≡ Failure.Memory) }
+{
+    let mut text = Vec::new(alloc);
+    match write_record(alloc, recorded, &mut text) {
+        Ok(()) => Ok(text),
+        Err(_) => Err(Failure::Memory),
+    }
+}
+
 /// Writes the text of a record, as long as it may be, in blocks.
 ///
 /// # Errors

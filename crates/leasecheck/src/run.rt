@@ -11,7 +11,7 @@ ghost use Rattle.leasecheck.specs.Running.{Does};
 use crate::command_line::asked;
 use crate::conversing::converse;
 use crate::failure::Failure;
-use crate::printing::{perform, tell_failure, tell_refusal};
+use crate::printing::{perform, print_text, tell_failure, tell_refusal};
 use crate::refusal::Refusal;
 use crate::tasks::{Asked, Task, Usage};
 use lease_lines::Machines;
@@ -33,7 +33,7 @@ fn views<'a>(alloc: Global, words: &'a [String]) -> Result<Vec<&'a str>, AllocEr
     Ok(views)
 }
 
-// Help goes to `out`, with status 1 where it can't be written; why there is no task goes to `faults`, with status 1 where that is
+// Help goes to `out`, with status 1 and a line on `faults` where it can't be written; why there is no task goes to `faults`, with status 1 where that is
 // want of memory.
 fn tell_usage<O: Write, F: Write>(usage: &Usage, out: &mut O, faults: &mut F) -> u8
     ensures told { TellsUsage usage.now (O.contents out.old) (O.contents out.new) result }
@@ -42,9 +42,12 @@ fn tell_usage<O: Write, F: Write>(usage: &Usage, out: &mut O, faults: &mut F) ->
     ensures silent { result ≡ 0 → Keeps (F.contents faults.old) (F.contents faults.new) }
 {
     match usage {
-        Usage::Help(text) => match out.write_all(text.as_bytes()) {
+        Usage::Help(text) => match print_text(text.as_str(), out) {
             Ok(()) => 0,
-            Err(_) => 1,
+            Err(failure) => {
+                let _ = tell_failure(failure, faults);
+                1
+            }
         },
         Usage::Refused(text) => {
             let _ = faults.write_all(text.as_bytes());

@@ -75,4 +75,4 @@ reason_lines placed told (reason.LateWrite client file number wrote touched) =
 reason_lines placed told (reason.FalseDone client number wrote changed) =
     place_line_if placed wrote (codes ", the write") ++ (place_line_if placed changed (codes
     ", which isn't that write after its line") ++ (codes
-    "rule 4: a write is reported as done only if it changed its file" ++ (10 ∷ [])))
+    "rule 4: a write is settled as done only if it changed its file" ++ (10 ∷ [])))

@@ -219,7 +219,7 @@ pub fn push_reason(
             )?;
             push_words(
                 text,
-                "rule 4: a write is reported as done only if it changed its file\n",
+                "rule 4: a write is settled as done only if it changed its file\n",
             )
         }
     }

@@ -28,6 +28,7 @@ mod hexadecimal;
 mod idle;
 mod judging;
 mod messages;
+mod objects;
 mod printing;
 mod reading;
 mod recording;

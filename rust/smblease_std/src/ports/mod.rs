@@ -3,4 +3,5 @@
 pub mod bitflags;
 pub mod bytes;
 pub mod hex;
+pub mod json;
 pub mod uuid;

@@ -7,7 +7,7 @@ use crate::ports::clap::{Arg, ArgAction, ArgMatches, Command, Error};
 use crate::proved::capture_texts::Side;
 use crate::proved::lease_texts::rules_in;
 use crate::proved::leasecheck::help;
-use crate::proved::leasecheck::tasks::{Asked, CaptureForm, Kind, Task, Telling, Usage, VERSION};
+use crate::proved::leasecheck::tasks::{Asked, CaptureForm, Form, Kind, Task, Telling, Usage, VERSION};
 use smblease::proved::lease_state::Rules;
 use std::alloc::{AllocError, Global};
 
@@ -62,27 +62,32 @@ fn rules_argument<'a>(alloc: Global) -> Arg<'a> {
         .help("The rules of the server; the profile's are by-client,as-free")
 }
 
-fn replay_command<'a>(alloc: Global) -> Result<Command<'a>, AllocError> {
+// The command without its last two arguments.
+fn replay_begun<'a>(alloc: Global) -> Result<Command<'a>, AllocError> {
     let about = "Prints the record of the run that a schedule asks for";
     let file = file_argument(alloc, "The schedule; - is standard input");
     let messages = messages_argument(alloc);
     let explain = explain_argument(alloc, "Says of each event that did nothing what stood in its way, in a comment line");
-    command(alloc, "replay", about, help::REPLAY, help::REPLAY_END)
-        .arg(file)?
-        .arg(messages)?
-        .arg(explain)?
-        .arg(rules_argument(alloc))
+    command(alloc, "replay", about, help::REPLAY, help::REPLAY_END).arg(file)?.arg(messages)?.arg(explain)
+}
+
+fn replay_command<'a>(alloc: Global) -> Result<Command<'a>, AllocError> {
+    replay_begun(alloc)?.arg(json_argument(alloc))?.arg(rules_argument(alloc))
 }
 
 fn explain_argument<'a>(alloc: Global, help: &'a str) -> Arg<'a> {
     Arg::new(alloc, "explain").long("explain").action(ArgAction::SetTrue).help(help)
 }
 
+fn json_argument<'a>(alloc: Global) -> Arg<'a> {
+    Arg::new(alloc, "json").long("json").action(ArgAction::SetTrue).help("Prints the same as one JSON object, in one line")
+}
+
 fn judge_command<'a>(alloc: Global) -> Result<Command<'a>, AllocError> {
     let about = "Prints whether a record is safe, or where it first is not";
     let file = file_argument(alloc, "The record; - is standard input");
     let explain = explain_argument(alloc, "Says why, by the lines of the facts that make it so");
-    command(alloc, "judge", about, help::JUDGE, help::JUDGE_END).arg(file)?.arg(explain)
+    command(alloc, "judge", about, help::JUDGE, help::JUDGE_END).arg(file)?.arg(explain)?.arg(json_argument(alloc))
 }
 
 fn draw_command<'a>(alloc: Global) -> Result<Command<'a>, AllocError> {
@@ -110,7 +115,8 @@ fn capture_command<'a>(alloc: Global) -> Result<Command<'a>, AllocError> {
     command(alloc, "capture", about, help::CAPTURE, help::CAPTURE_END)
         .arg(file)?
         .arg(side_argument(alloc))?
-        .arg(record_argument(alloc))
+        .arg(record_argument(alloc))?
+        .arg(json_argument(alloc))
 }
 
 fn client_command<'a>(alloc: Global) -> Command<'a> {
@@ -211,8 +217,13 @@ fn is_given(given: &ArgMatches, name: &str) -> bool {
     }
 }
 
+// Lines, where no JSON is wanted.
+fn form_told(given: &ArgMatches) -> Form {
+    if is_given(given, "json") { Form::Json } else { Form::Lines }
+}
+
 fn telling_of(given: &ArgMatches) -> Telling {
-    Telling { messages: is_given(given, "messages"), idle: is_given(given, "explain") }
+    Telling { messages: is_given(given, "messages"), idle: is_given(given, "explain"), form: form_told(given) }
 }
 
 // The rules that are named; the profile's where there are none.
@@ -270,11 +281,13 @@ fn replay_asked(alloc: Global, given: &ArgMatches) -> Result<Option<Asked>, Allo
 }
 
 fn judge_asked(alloc: Global, given: &ArgMatches) -> Result<Option<Asked>, AllocError> {
-    let explains = is_given(given, "explain");
+    let (explains, json) = (is_given(given, "explain"), is_given(given, "json"));
     match owned(alloc, given, "FILE")? {
         Some(path) => {
-            if explains {
-                Ok(Some(Asked::Task(Task::Explain(path))))
+            if json {
+                Ok(Some(Asked::Task(Task::Explain(path, Form::Json))))
+            } else if explains {
+                Ok(Some(Asked::Task(Task::Explain(path, Form::Lines))))
             } else {
                 Ok(Some(Asked::Task(Task::Judge(path))))
             }
@@ -295,12 +308,12 @@ fn form_of(given: &ArgMatches) -> CaptureForm {
 }
 
 fn capture_asked(alloc: Global, given: &ArgMatches) -> Result<Option<Asked>, AllocError> {
-    let form = form_of(given);
+    let (form, told) = (form_of(given), form_told(given));
     let Some(side) = side_given(given) else {
         return Ok(None);
     };
     match owned(alloc, given, "FILE")? {
-        Some(path) => Ok(Some(Asked::Task(Task::Capture(path, side, form)))),
+        Some(path) => Ok(Some(Asked::Task(Task::Capture(path, side, form, told)))),
         None => Ok(None),
     }
 }

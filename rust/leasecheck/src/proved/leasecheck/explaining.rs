@@ -9,7 +9,7 @@ use crate::proved::leasecheck::refusal::Refusal;
 use crate::proved::leasecheck::remarks::line_at;
 use crate::proved::record_words::{Placed, push_explanation, read_placed};
 use smblease::proved::lease_world::{Verdict, judge};
-use std::alloc::Global;
+use std::alloc::{AllocError, Global};
 
 /// The facts of a text, with their lines.
 ///
@@ -24,16 +24,23 @@ pub(crate) fn placed_of(alloc: Global, text: &[u8]) -> Result<Placed, Refusal> {
     }
 }
 
-/// What `leasecheck judge --explain` prints for the text of a record: the verdict, and the facts that make it so.
+/// Why the text of a record has its verdict: the facts that make it so, and the verdict.
 ///
 /// # Errors
 ///
 /// `Line` with the number of the first line that is refused, and what is said of that, and `Memory` where there is none left.
-pub fn explain_text(alloc: Global, text: &[u8]) -> Result<(String, Verdict), Refusal> {
+pub fn explanation_of(alloc: Global, text: &[u8]) -> Result<(String, Verdict), Refusal> {
     let placed = placed_of(alloc, text)?;
     let verdict = judge(alloc, placed.facts.as_slice())?;
     let mut told = String::new(alloc);
-    push_verdict(&mut told, &verdict)?;
     push_explanation(alloc, &mut told, &placed, &verdict)?;
     Ok((told, verdict))
+}
+
+/// What `leasecheck judge --explain` prints of these: the line of the verdict, and the explanation.
+pub fn reason_text(alloc: Global, verdict: &Verdict, explanation: &str) -> Result<String, AllocError> {
+    let mut text = String::new(alloc);
+    push_verdict(&mut text, verdict)?;
+    text.push_str(explanation)?;
+    Ok(text)
 }

@@ -69,7 +69,8 @@ comment line before each 'sent' and 'took' says what is in the message. With
 --explain a comment line says of each event that did nothing, by its line in the
 schedule, what stood in its way. With --rules by-key,whole the server has these
 rules and not the profile's, and a comment line before the last one says so
-(docs/PROFILE.md).";
+(docs/PROFILE.md). With --json it prints one object in a line,
+{\"verdict\":\"safe\",\"record\":[..]}, where the array has all these lines.";
 
 pub(crate) const REPLAY_END: &str = "Example:
   $ printf 'file 61\\nclient 11111111-1111-1111-1111-111111111111\\nconnect 1\\n' | leasecheck replay -
@@ -91,9 +92,11 @@ pub(crate) const JUDGE: &str = "Reads a record, one fact a line, and prints 'saf
 RULE' (status 3) or 'malformed PLACE' (status 1). PLACE is the number of the
 first bad fact, from 1; RULE is 1 where one client caches writes of a file that
 another caches, 2 for a cached read of other bytes, 3 for a buffered write that
-was accepted late, and 4 for a write reported as done that was not accepted.
+was accepted late, and 4 for a write settled as done that was not accepted.
 With --explain it then prints the facts that make it so, with their lines, and
-how much was judged.";
+how much was judged. With --json it prints all of that as one object in a line:
+{\"verdict\":\"unsafe\",\"place\":3,\"rule\":4,\"explanation\":[..]}, where the array has
+the lines of the explanation as strings.";
 
 pub(crate) const JUDGE_END: &str = "Example:
   $ printf 'start 1 61\\njoined 1\\nsettled 1 1 done\\n' | leasecheck judge -
@@ -146,8 +149,11 @@ of either in which none do. Then it prints a line for each file on which leases
 were granted, one for each client that isn't judged, and how much was read. With
 --record it prints a record, of what the clients cached of the unsafe files or
 else of the safe ones, with a comment line before each fact that names its
-packet; and the verdict and the rest as comment lines after it. drive/capture in
-the project's repository makes such lines of a file that tshark reads.";
+packet; and the verdict and the rest as comment lines after it. With --json it
+prints one object in a line, {\"verdict\":\"safe\",\"findings\":[..]} or
+{\"verdict\":\"safe\",\"record\":[..]}, where the array has the lines behind the verdict,
+or those of the record. drive/capture in the project's repository makes such
+lines of a file that tshark reads.";
 
 pub(crate) const CAPTURE_END: &str = "Example:
   $ printf 'end 1 0.5 1\\n' | leasecheck capture -

@@ -2,24 +2,27 @@
 
 use std::prelude::{String, Vec};
 
-use crate::proved::capture_texts::Side;
-use crate::proved::leasecheck::capturing::{capture_record, capture_text};
+use crate::proved::capture_texts::{CaptureVerdict, Side};
+use crate::proved::leasecheck::capturing::{capture_findings, capture_record, findings_text};
 use crate::proved::leasecheck::drawing::draw_text;
-use crate::proved::leasecheck::explaining::explain_text;
+use crate::proved::leasecheck::explaining::{explanation_of, reason_text};
 use crate::proved::leasecheck::failure::Failure;
 use crate::proved::leasecheck::judging::{judge_text, push_verdict, status_of};
+use crate::proved::leasecheck::objects::{capture_object, record_object};
 use crate::proved::leasecheck::reading::read_all;
-use crate::proved::leasecheck::recording::{Record, write_record};
+use crate::proved::leasecheck::recording::{Record, record_text, write_record};
 use crate::proved::leasecheck::refusal::Refusal;
 use crate::proved::leasecheck::replaying::replay;
-use crate::proved::leasecheck::tasks::{CaptureForm, Kind, Task, Telling, VERSION, file_named};
+use crate::proved::leasecheck::tasks::{CaptureForm, Form, Kind, Task, Telling, VERSION, file_named};
 use crate::proved::leasecheck::wire::{ack_lines, render};
 use crate::proved::leasecheck::{capturing, hexadecimal};
 use arrayvec::ArrayString;
 use smblease::proved::lease_state::Rules;
-use std::alloc::Global;
+use smblease::proved::lease_world::Verdict;
+use std::alloc::{AllocError, Global};
 use std::fmt::Write as _;
 use std::io::{ErrorKind, Read, Write};
+use std::str::from_utf8;
 
 // More bytes than the line of any failure has.
 const LINE: usize = 80;
@@ -30,11 +33,18 @@ struct Printed {
     status: u8,
 }
 
+// A JSON object that a task prints, and the exit status.
+struct Object {
+    text: Vec<u8>,
+    status: u8,
+}
+
 // What a task has made before anything is written.
 enum Made {
     Text(Printed),
     /// Its text is made as it is written.
     Record(Record),
+    Object(Object),
 }
 
 fn done(text: String) -> Printed {
@@ -67,7 +77,7 @@ fn given_to<I: Read>(alloc: Global, task: &Task, input: &mut I) -> Result<Vec<u8
         Task::Ack(argument) => bytes_given(alloc, argument.as_str(), input),
         Task::Show(_, argument) => bytes_given(alloc, argument.as_str(), input),
         Task::Version => Ok(Vec::new(alloc)),
-        Task::Replay(_, _, _) | Task::Judge(_) | Task::Explain(_) | Task::Draw(_) | Task::Capture(_, _, _) => {
+        Task::Replay(_, _, _) | Task::Judge(_) | Task::Explain(_, _) | Task::Draw(_) | Task::Capture(_, _, _, _) => {
             let bytes = read_all(alloc, input)?;
             Ok(bytes)
         }
@@ -88,16 +98,48 @@ fn shown(alloc: Global, kind: Kind, given: &[u8]) -> Result<Made, Refusal> {
     }
 }
 
+// A run in the form in which it is told.
+fn run_made(alloc: Global, form: Form, ran: Record) -> Result<Made, Failure> {
+    match form {
+        Form::Lines => Ok(Made::Record(ran)),
+        Form::Json => {
+            let record = record_text(alloc, &ran)?;
+            // (it is put together of text, so this is never refused)
+            let Ok(lines) = from_utf8(record.as_slice()) else {
+                return Err(Failure::Memory);
+            };
+            let text = record_object(alloc, &Verdict::Safe, "record", lines)?;
+            Ok(Made::Object(Object { text, status: 0 }))
+        }
+    }
+}
+
 fn replayed(alloc: Global, telling: Telling, rules: Rules, schedule: &[u8]) -> Result<Made, Refusal> {
     let ran = replay(alloc, telling, rules, schedule)?;
-    Ok(Made::Record(ran))
+    let made = run_made(alloc, telling.form, ran)?;
+    Ok(made)
+}
+
+// A verdict with what explains it.
+fn reason_made(alloc: Global, form: Form, verdict: &Verdict, explanation: &str) -> Result<Made, AllocError> {
+    let status = status_of(verdict);
+    match form {
+        Form::Lines => {
+            let text = reason_text(alloc, verdict, explanation)?;
+            Ok(Made::Text(Printed { text, status }))
+        }
+        Form::Json => {
+            let text = record_object(alloc, verdict, "explanation", explanation)?;
+            Ok(Made::Object(Object { text, status }))
+        }
+    }
 }
 
 // The verdict on a record, and why it is that.
-fn explained(alloc: Global, bytes: &[u8]) -> Result<Made, Refusal> {
-    let (text, verdict) = explain_text(alloc, bytes)?;
-    let status = status_of(&verdict);
-    Ok(Made::Text(Printed { text, status }))
+fn explained(alloc: Global, form: Form, bytes: &[u8]) -> Result<Made, Refusal> {
+    let (explanation, verdict) = explanation_of(alloc, bytes)?;
+    let made = reason_made(alloc, form, &verdict, explanation.as_str())?;
+    Ok(made)
 }
 
 // The picture of a record, or of the run of a schedule.
@@ -106,14 +148,47 @@ fn drawn(alloc: Global, file: &[u8]) -> Result<Made, Refusal> {
     Ok(Made::Text(done(text)))
 }
 
-// The verdict on a capture, and what is found in it.
-fn captured(alloc: Global, side: Side, form: CaptureForm, text: &[u8]) -> Result<Made, Refusal> {
-    let (text, verdict) = match form {
-        CaptureForm::Findings => capture_text(alloc, side, text)?,
-        CaptureForm::Record => capture_record(alloc, side, text)?,
-    };
+// The verdict on a capture, with what is found in it.
+fn findings_made(alloc: Global, form: Form, verdict: CaptureVerdict, findings: &str) -> Result<Made, AllocError> {
     let status = capturing::status_of(verdict);
-    Ok(Made::Text(Printed { text, status }))
+    match form {
+        Form::Lines => {
+            let text = findings_text(alloc, verdict, findings)?;
+            Ok(Made::Text(Printed { text, status }))
+        }
+        Form::Json => {
+            let text = capture_object(alloc, verdict, "findings", findings)?;
+            Ok(Made::Object(Object { text, status }))
+        }
+    }
+}
+
+// The verdict on a capture, with the record of it.
+fn capture_record_made(alloc: Global, form: Form, verdict: CaptureVerdict, lines: String) -> Result<Made, AllocError> {
+    let status = capturing::status_of(verdict);
+    match form {
+        Form::Lines => Ok(Made::Text(Printed { text: lines, status })),
+        Form::Json => {
+            let text = capture_object(alloc, verdict, "record", lines.as_str())?;
+            Ok(Made::Object(Object { text, status }))
+        }
+    }
+}
+
+// The verdict on a capture, and what is found in it or the record of it.
+fn captured(alloc: Global, side: Side, kind: CaptureForm, form: Form, text: &[u8]) -> Result<Made, Refusal> {
+    match kind {
+        CaptureForm::Findings => {
+            let (findings, verdict) = capture_findings(alloc, side, text)?;
+            let made = findings_made(alloc, form, verdict, findings.as_str())?;
+            Ok(made)
+        }
+        CaptureForm::Record => {
+            let (record, verdict) = capture_record(alloc, side, text)?;
+            let made = capture_record_made(alloc, form, verdict, record)?;
+            Ok(made)
+        }
+    }
 }
 
 // All that a task prints which goes by these bytes.
@@ -126,9 +201,9 @@ fn made_of(alloc: Global, task: &Task, given: &[u8]) -> Result<Made, Refusal> {
             let mut left = given;
             judged(alloc, &mut left)
         }
-        Task::Explain(_) => explained(alloc, given),
+        Task::Explain(_, form) => explained(alloc, *form, given),
         Task::Draw(_) => drawn(alloc, given),
-        Task::Capture(_, side, form) => captured(alloc, *side, *form, given),
+        Task::Capture(_, side, kind, form) => captured(alloc, *side, *kind, *form, given),
         Task::Version => Ok(Made::Text(done(String::from_str(alloc, VERSION)?))),
     }
 }
@@ -167,10 +242,14 @@ pub(crate) fn put<W: Write>(text: &[u8], out: &mut W) -> Result<(), Failure> {
     Err(Failure::Output)
 }
 
-pub(crate) fn print_text<O: Write>(text: &str, out: &mut O) -> Result<(), Failure> {
-    put(text.as_bytes(), out)?;
+fn print_bytes<O: Write>(bytes: &[u8], out: &mut O) -> Result<(), Failure> {
+    put(bytes, out)?;
     out.flush().map_err(|_| Failure::Output)?;
     Ok(())
+}
+
+pub(crate) fn print_text<O: Write>(text: &str, out: &mut O) -> Result<(), Failure> {
+    print_bytes(text.as_bytes(), out)
 }
 
 // Writes what a task has made, and gives the exit status.
@@ -184,6 +263,10 @@ fn print_made<O: Write>(alloc: Global, made: &Made, out: &mut O) -> Result<u8, F
             Ok(()) => Ok(0),
             Err(failure) => Err(failure),
         },
+        Made::Object(object) => {
+            print_bytes(object.text.as_slice(), out)?;
+            Ok(object.status)
+        }
     }
 }
 

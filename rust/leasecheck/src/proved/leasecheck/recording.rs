@@ -123,6 +123,19 @@ fn write_facts<'a, O: Write>(recorded: &'a Record, gathered: &mut Gathered, out:
     Ok(idle)
 }
 
+/// The text of a record as a whole.
+///
+/// # Errors
+///
+/// `Memory` where there is none left.
+pub fn record_text(alloc: Global, recorded: &Record) -> Result<Vec<u8>, Failure> {
+    let mut text = Vec::new(alloc);
+    match write_record(alloc, recorded, &mut text) {
+        Ok(()) => Ok(text),
+        Err(_) => Err(Failure::Memory),
+    }
+}
+
 /// Writes the text of a record, as long as it may be, in blocks.
 ///
 /// # Errors

@@ -6,7 +6,7 @@ use crate::proved::lease_lines::Machines;
 use crate::proved::leasecheck::command_line::asked;
 use crate::proved::leasecheck::conversing::converse;
 use crate::proved::leasecheck::failure::Failure;
-use crate::proved::leasecheck::printing::{perform, tell_failure, tell_refusal};
+use crate::proved::leasecheck::printing::{perform, print_text, tell_failure, tell_refusal};
 use crate::proved::leasecheck::refusal::Refusal;
 use crate::proved::leasecheck::tasks::{Asked, Task, Usage};
 use std::alloc::{AllocError, Global};
@@ -25,13 +25,16 @@ fn views<'a>(alloc: Global, words: &'a [String]) -> Result<Vec<&'a str>, AllocEr
     Ok(views)
 }
 
-// Help goes to `out`, with status 1 where it can't be written; why there is no task goes to `faults`, with status 1 where that is
+// Help goes to `out`, with status 1 and a line on `faults` where it can't be written; why there is no task goes to `faults`, with status 1 where that is
 // want of memory.
 fn tell_usage<O: Write, F: Write>(usage: &Usage, out: &mut O, faults: &mut F) -> u8 {
     match usage {
-        Usage::Help(text) => match out.write_all(text.as_bytes()) {
+        Usage::Help(text) => match print_text(text.as_str(), out) {
             Ok(()) => 0,
-            Err(_) => 1,
+            Err(failure) => {
+                let _ = tell_failure(failure, faults);
+                1
+            }
         },
         Usage::Refused(text) => {
             let _ = faults.write_all(text.as_bytes());

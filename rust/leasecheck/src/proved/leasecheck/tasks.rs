@@ -20,16 +20,26 @@ pub enum Kind {
     Response,
 }
 
-/// What a replay prints of a run besides its facts.
+/// How it is printed what a task finds.
+#[derive(Clone, Copy, Debug, PartialEq, Eq)]
+pub enum Form {
+    /// In lines.
+    Lines,
+    /// As one JSON object.
+    Json,
+}
+
+/// What a replay prints of a run besides its facts, and how.
 #[derive(Clone, Copy, Debug, PartialEq, Eq)]
 pub struct Telling {
     /// Before each fact that speaks of a message a comment line with what is in it.
     pub messages: bool,
     /// For each event that did nothing a comment line with what stood in its way.
     pub idle: bool,
+    pub form: Form,
 }
 
-/// How it is printed what is found in a capture.
+/// What is printed of what is found in a capture.
 #[derive(Clone, Copy, Debug, PartialEq, Eq)]
 pub enum CaptureForm {
     /// The verdict, and a line for each finding.
@@ -50,13 +60,13 @@ pub enum Task {
     Replay(String, Telling, Rules),
     /// The verdict on the record in this file.
     Judge(String),
-    /// The same, and why it is that.
-    Explain(String),
+    /// The same, and why it is that, in this form.
+    Explain(String, Form),
     /// The picture of the record in this file, or of the run of the schedule in it.
     Draw(String),
-    /// What the capture in this file shows of leases, and the verdict on it, in this form. It was made at this side of its
+    /// What the capture in this file shows of leases, and the verdict on it, in these forms. It was made at this side of its
     /// connections.
-    Capture(String, Side, CaptureForm),
+    Capture(String, Side, CaptureForm, Form),
     /// The version of the program.
     Version,
 }
@@ -85,9 +95,11 @@ impl Task {
         match self {
             Task::Ack(argument) | Task::Show(_, argument) => file_named(argument.as_str()),
             Task::Version => None,
-            Task::Replay(path, _, _) | Task::Judge(path) | Task::Explain(path) | Task::Draw(path) | Task::Capture(path, _, _) => {
-                Some(path.as_str())
-            }
+            Task::Replay(path, _, _)
+            | Task::Judge(path)
+            | Task::Explain(path, _)
+            | Task::Draw(path)
+            | Task::Capture(path, _, _, _) => Some(path.as_str()),
         }
     }
 }

@@ -107,7 +107,7 @@ pub fn push_reason(alloc: Global, text: &mut String, placed: &Placed, told: usiz
         Reason::FalseDone { wrote, changed, .. } => {
             push_place_if(alloc, text, placed, *wrote, ", the write")?;
             push_place_if(alloc, text, placed, *changed, ", which isn't that write after its line")?;
-            push_words(text, "rule 4: a write is reported as done only if it changed its file\n")
+            push_words(text, "rule 4: a write is settled as done only if it changed its file\n")
         }
     }
 }
