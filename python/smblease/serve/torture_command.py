@@ -8,8 +8,6 @@ import time
 from collections.abc import Callable, Sequence
 from concurrent.futures import ThreadPoolExecutor
 from contextlib import closing
-from dataclasses import dataclass
-from enum import Enum
 
 from smblease.drive.called import name_of, need, parser_of, where_from
 from smblease.drive.clock import library
@@ -19,31 +17,15 @@ from smblease.drive.servers import PrivateServer
 from smblease.program import find_program
 from smblease.serve.run_command import RULES
 from smblease.serve.server_process import ServerProcess
+from smblease.serve.torture_suites import Kind, Row, read_rows, table
 
 # A session is ended by another one of its user alone, which no guest is.
 USER, PASSWORD = "torture", "torture"
 SUITES = ("smb2.lease", "smb2.durable-open", "smb2.durable-open-disconnect")
-EPILOG = """Each test is a line: its name, `passed`, `failed` or `skipped`, its seconds, and smbtorture's own words, if any.
+EPILOG = """Each test is a line: its name, `passed`, `failed` or `skipped`, its seconds, and smbtorture's own words, if any. After
+--all comes a table, a row for each suite.
 
 Exit status: 0 none failed; 1 some did, or couldn't be run; 2 the command line is refused."""
-
-
-class Kind(Enum):
-    PASSED = "passed"
-    FAILED = "failed"
-    SKIPPED = "skipped"
-
-
-@dataclass(frozen=True)
-class Row:
-    name: str
-    kind: Kind
-    seconds: float
-    words: str
-
-    @property
-    def text(self) -> str:
-        return f"{self.name:45} {self.kind.value:8} {self.seconds:6.1f} {self.words}".rstrip()
 
 
 def parser() -> argparse.ArgumentParser:
@@ -51,6 +33,9 @@ def parser() -> argparse.ArgumentParser:
     made = parser_of("serve/torture", f"Runs tests of smbtorture against the server of {served}.", EPILOG)
     made.add_argument("name", metavar="NAME", nargs="*",
                       help=f"a test, as smb2.lease.request, or a suite, as smb2.session ({', '.join(SUITES)})")
+    made.add_argument("--all", action="store_true",
+                      help="all tests of SMB 2, against this server and then a private smbd, or with --smbd against that alone")
+    made.add_argument("--beside", metavar="FILE", help="with --all: what --all --smbd printed, in place of running smbd's again")
     made.add_argument("--no-guests", action="store_true", help="with its user alone, so that all is signed")
     made.add_argument("--smbd", action="store_true", help="against a private smbd, for comparison; needs root")
     made.add_argument("--rules", default=RULES, metavar="RULES", help=f"with {served} --rules RULES ({RULES})")
@@ -61,10 +46,14 @@ def parser() -> argparse.ArgumentParser:
     return made
 
 
+def known_tests() -> list[str]:
+    """All that smbtorture lists: with the last name twice, which may have blanks."""
+    return [it.rpartition(".")[0] for it in _ran(["smbtorture", "--list"], 60.0).stdout.splitlines() if it.startswith("smb2.")]
+
+
 def chosen_tests(names: Sequence[str]) -> list[str]:
-    """Tests, and those of suites, of all that smbtorture lists: with the last name twice."""
-    listed = _ran(["smbtorture", "--list"], 60.0).stdout.split()
-    known = [line.rpartition(".")[0] for line in listed]
+    """Tests, and those of suites."""
+    known = known_tests()
     found: list[str] = []
     for name in names:
         tests = [it for it in known if name in (it, it.rpartition(".")[0])]
@@ -98,7 +87,7 @@ def run_test(name: str, server: Callable[[str], ServerProcess | PrivateServer], 
 
 
 def _outcome(output: str, status: int) -> tuple[Kind, str]:
-    found = re.search(r"^(success|skip|failure|error): \S+(?: \[\n(.*?)\n\])?$", output, re.MULTILINE | re.DOTALL)
+    found = re.search(r"^(success|skip|failure|error): [^\[\n]+?(?: \[\n(.*?)\n\])?$", output, re.MULTILINE | re.DOTALL)
     words = " ".join((found.group(2) or "").split()) if found else _last_status(output)
     if found and found.group(1) == "success" and status == 0:
         return Kind.PASSED, ""
@@ -111,31 +100,53 @@ def _last_status(output: str) -> str:
     return " ".join((lines or output.splitlines() or ["nothing"])[-1].split())
 
 
-def torture(arguments: argparse.Namespace) -> int:
-    if arguments.smbd:
-        # The proved server is tested without that package.
-        need("impacket", "--smbd")
-    tests = chosen_tests(arguments.name or SUITES)
-    if arguments.jobs < 1:
-        raise Usage("--jobs is at least 1")
+def run_tests(tests: Sequence[str], server: Callable[[str], ServerProcess | PrivateServer], arguments: argparse.Namespace) -> list[Row]:
+    """Prints each row as soon as those before it are there."""
+    rows: list[Row] = []
+    with ThreadPoolExecutor(arguments.jobs) as pool:
+        try:
+            for row in pool.map(lambda name: run_test(name, server, arguments.limit), tests):
+                rows.append(row)
+                print(row.text, flush=True)
+        except BaseException:
+            pool.shutdown(cancel_futures=True)
+            raise
+    counts = [sum(row.kind is kind for row in rows) for kind in Kind]
+    print(", ".join(f"{count} {kind.value}" for count, kind in zip(counts, Kind)), flush=True)
+    return rows
 
-    def server(name: str) -> ServerProcess | PrivateServer:
-        if arguments.smbd:
-            return PrivateServer()
+
+def run_on_smbd(tests: Sequence[str], arguments: argparse.Namespace) -> list[Row]:
+    # The proved server is tested without that package.
+    need("impacket", "--smbd")
+    # Compiled once, before servers are made side by side.
+    library()
+    return run_tests(tests, lambda _: PrivateServer(), arguments)
+
+
+def run_on_served(tests: Sequence[str], arguments: argparse.Namespace) -> list[Row]:
+    def server(name: str) -> ServerProcess:
         record = f"{arguments.record}{name}" if arguments.record else None
         words = ["--rules", arguments.rules, "--user", f"{USER}%{PASSWORD}", *([] if arguments.no_guests else ["--guests"])]
         return ServerProcess(arguments.leasecheck, record, words, USER, PASSWORD)
-    if arguments.smbd:
-        # Compiled once, before servers are made side by side.
-        library()
-    rows: list[Row] = []
-    with ThreadPoolExecutor(arguments.jobs) as pool:
-        for row in pool.map(lambda name: run_test(name, server, arguments.limit), tests):
-            rows.append(row)
-            print(row.text, flush=True)
-    counts = [sum(row.kind is kind for row in rows) for kind in Kind]
-    print(", ".join(f"{count} {kind.value}" for count, kind in zip(counts, Kind)))
-    return NOT_DRIVEN if counts[1] else SAFE
+    return run_tests(tests, server, arguments)
+
+
+def torture(arguments: argparse.Namespace) -> int:
+    if arguments.jobs < 1:
+        raise Usage("--jobs is at least 1")
+    if arguments.all and arguments.name:
+        raise Usage("--all goes without names")
+    if arguments.beside and (arguments.smbd or not arguments.all):
+        raise Usage("--beside goes with --all, and without --smbd")
+    beside = read_rows(arguments.beside) if arguments.beside else None
+    tests = known_tests() if arguments.all else chosen_tests(arguments.name or SUITES)
+    rows = (run_on_smbd if arguments.smbd else run_on_served)(tests, arguments)
+    if arguments.all and arguments.smbd:
+        print(table([("smbd", rows)]))
+    elif arguments.all:
+        print(table([("serve/run", rows), ("smbd", run_on_smbd(tests, arguments) if beside is None else beside)]))
+    return NOT_DRIVEN if any(row.kind is Kind.FAILED for row in rows) else SAFE
 
 
 def main(words: Sequence[str] | None = None) -> int:
