@@ -27,11 +27,10 @@ def test_an_overwrite_of_an_open_file(served: ServerProcess, connect: Connect) -
     first = one.open(leased("file", KEY, "RWH"))
     one.ask(write(first))
     number = other.send(create("file", disposition=OVERWRITE))
-    assert (other.receive().status, one.receive().number(92, 4)) == (Status.PENDING, 3), "a break to RH"
+    assert (other.receive().status, one.receive().number(92, 4)) == (Status.PENDING, 0), "a break to none"
     assert one.status(write(first, 8, b" more")) == Status.SUCCESS
-    one.send(acknowledgment(KEY, "RH"))
+    one.ask(acknowledgment(KEY, "none"))
     assert end_of_file(other.answer_to(number)) == 0
-    assert [one.receive().command, one.receive().number(92, 4)] == [Command.OPLOCK_BREAK, 0], "the answer, and a break to none"
     assert one.status(read(first)) == Status.END_OF_FILE
 
 
@@ -138,21 +137,6 @@ def test_sharing(shared: ServerProcess, connect: Connect, access: int, expected:
     one, other = connect(shared), connect(shared)
     one.open(create("file", access=0x120089, share=1))
     assert other.status(create("file", access=access, share=7)) == expected
-
-
-@pytest.mark.parametrize("access", [0x80, 0x100, 0x180, 0x100080])
-@pytest.mark.parametrize("letters", [pytest.param("", id="a_batch_oplock"), pytest.param("RWH", id="a_lease")])
-def test_an_open_of_attributes_that_asks_to_cache(shared: ServerProcess, connect: Connect, access: int, letters: str) -> None:
-    """It breaks nothing, shares with all, and is granted nothing; nobody else has it in the way (MS-FSA 2.1.4.12, 2.1.5.1.2)."""
-    one, other, name = connect(shared), connect(shared), f"attributes-{access:x}-{letters}"
-    contexts = CreateAsk(OTHER_KEY, LeaseState.of("RWH")).write() if letters else b""
-    looking = create(name, access=access, level=LEASE if letters else BATCH, contexts=contexts)
-    looks = other.ask(looking)
-    assert (looks.status, looks.number(66, 1)) == (Status.SUCCESS, 0)
-    asks = CreateAsk(KEY, LeaseState.of("RWH")).write()
-    assert one.ask(create(name, share=0, level=LEASE, contexts=asks)).status == Status.SUCCESS
-    looks = other.ask(looking)
-    assert (looks.status, looks.number(66, 1), other.breaks, one.has_more(0.05)) == (Status.SUCCESS, 0, [], False)
 
 
 def test_locks_that_are_refused_together(served: ServerProcess, connect: Connect) -> None:

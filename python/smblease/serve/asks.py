@@ -27,6 +27,8 @@ class Asked:
     call: Callable[[Manager, int], Decisions]
     effect: Callable[[], object] = lambda: None
     is_new_open: bool = False
+    # it changes the file as soon as it goes on
+    empties: bool = False
     # the FileId of what it closes, which nobody takes back
     closes: int | None = None
 
@@ -61,9 +63,10 @@ Handling = Waits[Answer]
 Steps = Waits[None]
 
 
-def opening(client: ManagerClient, node: Node, access: Access, share: Share, ask: CreateAsk = CreateAsk()) -> Waits[Opened]:
+def opening(client: ManagerClient, node: Node, access: Access, share: Share, ask: CreateAsk = CreateAsk(),
+            empties: bool = False) -> Waits[Opened]:
     opened = yield Asked(client, node, lambda manager, tag: manager.create(client.number, tag, node.number, access, share, ask),
-                         is_new_open=ask.reconnect is None)
+                         is_new_open=ask.reconnect is None, empties=empties)
     assert isinstance(opened, Opened)
     return opened
 

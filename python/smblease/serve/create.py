@@ -117,22 +117,26 @@ class Create(Handlers):
         if writes(wanted.access) or wanted.empties:
             self._server.names.make_writable(node)
         if not (reads(wanted.access) or writes(wanted.access) or wanted.empties) and (
-                wanted.level == NO_LEVEL or is_of_attributes(wanted.access)):
+                wanted.level == NO_LEVEL or is_of_attributes(wanted.access)
+                and not self._server.looking.may_cache(node, request.client, wanted.key)):
             return (yield from self._file_without_data(request, wanted, node)), b""
         client, ask = self._manager_client(request, wanted, node)
+        hides = self._server.looking.hides(node, wanted.share)
         try:
-            decided = yield from opening(client, node, *wanted.rights, ask)
+            decided = yield from opening(client, node, *wanted.rights_beside(hides), ask, wanted.empties)
             yield from self._refuse_late(request, client, node, decided)
+            yield from self._refuse_unshared(wanted, hides, client, node, decided)
         except StatusError:
             if client.guid is None:
                 self._server.free(client)
             raise
         opened = self._granted(request, wanted, node, client, decided)
+        opened.hides_reading = hides
         yield from self._after_grant(request, wanted, opened, action)
         return opened, decided.answer.write() if not client.open else self._oplock_contexts(opened)
 
     def _file_without_data(self, request: Request, wanted: CreateParameters, node: Node) -> Waits[Open]:
-        if not is_stat(wanted.access):
+        if not is_stat(wanted.access) or not is_of_attributes(wanted.access) and any(it.has_oplock for it in node.opens):
             yield from self._break_writes_of_others(request, node)
         if node.is_gone:
             raise Vanished
@@ -161,6 +165,12 @@ class Create(Handlers):
         except StatusError:
             yield from self._server.close_in_manager(client, node, decided.file_id)
             raise
+
+    def _refuse_unshared(self, wanted: CreateParameters, hides: bool, client: ManagerClient, node: Node, decided: Opened) -> Steps:
+        """What the shell guards may have been opened while it waited."""
+        if any(conflicts(wanted, it) or hides and reads(it.access) for it in node.opens):
+            yield from self._server.close_in_manager(client, node, decided.file_id)
+            raise StatusError(Status.SHARING_VIOLATION)
 
     def _break_for_deletion(self, request: Request, opened: Open) -> Steps:
         """Who deletes at its close has all others give up handles first."""

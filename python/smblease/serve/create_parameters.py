@@ -62,9 +62,12 @@ class CreateParameters:
 
     @property
     def rights(self) -> tuple[Access, Share]:
+        return self.rights_beside(False)
+
+    def rights_beside(self, hides_reading: bool) -> tuple[Access, Share]:
         """Access and share as the manager has them. Who empties a file writes it; who holds a lease alone reads."""
         access = reads(self.access) + 2 * (writes(self.access) or self.empties)
-        return Access(access or 1), Share(self.share & 3) if access else Share.READ_WRITE
+        return Access(access or 1), Share(self.share & 3 | hides_reading) if access else Share.READ_WRITE
 
     def lease_ask(self, has_oplock: bool) -> CreateAsk:
         """What is asked for as it came, but for a lease that the level doesn't ask for; and for handles, where another open has
@@ -108,9 +111,12 @@ def check(wanted: CreateParameters, limit: int) -> None:
 
 
 def conflicts(wanted: CreateParameters, other: Open) -> bool:
-    """Whether one deletes and the other doesn't share that; what is read and written is shared by the manager's rules."""
+    """Whether one deletes and the other doesn't share that; what is read and written is shared by the manager's rules, unless the
+    manager wasn't told of it."""
     if not counts(wanted.access) or not counts(other.access):
         return False
+    if other.hides_reading and reads(wanted.access):
+        return True
     return bool(wanted.access & DELETE and not other.share & SHARE_DELETE
                 or other.access & DELETE and not wanted.share & SHARE_DELETE)
 

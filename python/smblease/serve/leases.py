@@ -38,7 +38,7 @@ class Leases(Handlers):
             # It is on its way to a client that is cut already.
             return
         if notification.ack_required:
-            lease.broken_by = client.sent
+            lease.broken_by, lease.broken_to = client.sent, state
             self._server.stop_timer(lease)
             lease.timer = self._server.loop.call_later(self._server.settings.break_timer,
                                                        lambda: self.expire(client, notification.key))
@@ -66,6 +66,15 @@ class Leases(Handlers):
             self._server.start(self._acknowledge_itself(opened, state & LeaseState.R))
         else:
             opened.is_breaking = is_acknowledged
+
+    def break_own_level_ii(self, opened: Open) -> None:
+        """Who changes or locks a file loses level II by that, which no key keeps (MS-FSA 2.1.4.12)."""
+        lease = opened.lease
+        if opened.level != LEVEL_II or lease is None or opened.client is None:
+            return
+        lease.state = LeaseState.NONE
+        self._server.record.believes(opened.client, lease, LeaseState.NONE)
+        self._oplock_broken(opened, LeaseState.NONE, False)
 
     def _acknowledge_itself(self, opened: Open, state: LeaseState) -> Steps:
         if opened.client and opened.key:
@@ -104,6 +113,9 @@ class Leases(Handlers):
         except Fault:
             return None
         lease = client.leases.get(message.key)
+        if lease and lease.broken_by is not None and message.state & ~lease.broken_to:
+            # (it may be asked for more than the manager's break would)
+            raise StatusError(Status.REQUEST_NOT_ACCEPTED)
         if lease and lease.broken_by is not None:
             self._server.record.took(client, lease.broken_by)
             self._server.record.believes(client, lease, message.state & lease.believed)

@@ -53,6 +53,7 @@ class Locking(Handlers):
             self._server.host.resume(opened.node.pauses)
 
     def _take(self, request: Request, opened: Open, wanted: list[Lock], waits: bool) -> Steps:
+        self._server.leases.break_own_level_ii(opened)
         while True:
             try:
                 yield from self._server.forced_breaks.break_all(request, opened, lambda: _take_locks(opened, wanted))

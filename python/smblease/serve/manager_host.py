@@ -5,10 +5,10 @@ import asyncio
 import itertools
 from collections import deque
 from collections.abc import Callable
-from dataclasses import dataclass, field
+from dataclasses import dataclass, field, replace
 from typing import TYPE_CHECKING, Union
 
-from smblease import MachineLost, Manager, Rules, Status
+from smblease import LeaseState, MachineLost, Manager, Rules, Status
 from smblease.drive.headers import Unreadable
 from smblease.faults import ToolFault
 from smblease.manager_decisions import (Acknowledged, Breaks, Closed, Decision, Decisions, Ended, GoesOn, NotAcknowledged, Opened,
@@ -221,7 +221,8 @@ class ManagerHost:
         tag = next(self._tags)
         task.asked, task.tag = asked, tag
         self._waiting.setdefault(asked.client.number, {})[tag] = task
-        decisions = self.call(lambda manager: asked.call(manager, tag))
+        decisions = [_told(asked, it) for it in self._called(lambda manager: asked.call(manager, tag))]
+        self._decisions.extend((it, None) for it in decisions)
         task.decided += (it for it in decisions if isinstance(it, (Breaks, Waits)))
         return bool(decisions)
 
@@ -273,3 +274,12 @@ class ManagerHost:
     def _end(task: Task, answer: Answer | None) -> None:
         task.is_over, task.asked = True, None
         task.ended(answer or Answer(Status.UNSUCCESSFUL))
+
+
+def _told(asked: Asked, decision: Decision) -> Decision:
+    """What overwrites would break the rest of a lease as soon as W is given up: its client is asked for all of it at once."""
+    if not asked.empties or not isinstance(decision, Breaks):
+        return decision
+    notification = decision.notification
+    gives_up_writes = LeaseState.W in notification.current & ~notification.new
+    return replace(decision, notification=replace(notification, new=LeaseState.NONE)) if gives_up_writes else decision

@@ -87,6 +87,8 @@ class Open:  # pylint: disable=too-many-instance-attributes  # it has the state 
     locks: list[Lock] = field(default_factory=list)
     # the manager's open may do more than this one
     is_lent: bool = False
+    # it shares no reading, which the manager wasn't told
+    hides_reading: bool = False
     # a break of its oplock waits for the client's word
     is_breaking: bool = False
     # until when it is kept without a connection
@@ -117,8 +119,9 @@ class LeaseSeen:
     state: LeaseState
     opens: list[Open] = field(default_factory=list)
     believed: LeaseState = LeaseState.NONE
-    # the number of the message by which it is being broken
+    # the number of the message by which it is being broken, and what its client was told to keep
     broken_by: int | None = None
+    broken_to: LeaseState = LeaseState.NONE
     timer: TimerHandle | None = None
 
 

@@ -18,6 +18,7 @@ from smblease.serve.faults_on_demand import Faults
 from smblease.serve.forced_breaks import ForcedBreaks
 from smblease.serve.kept_opens import KeptOpens
 from smblease.serve.leases import Leases
+from smblease.serve.looking import Looking
 from smblease.serve.manager_clients import ManagerClients
 from smblease.serve.manager_host import ManagerHost, Task
 from smblease.serve.namespace import Namespace
@@ -59,6 +60,7 @@ class Server:  # pylint: disable=too-many-instance-attributes  # its parts find 
         self.log: RequestLog | None = None
         self.tree_ids, self.async_ids, self.own_file_ids = (itertools.count(it + 1) for it in (0, 0, OWN_FILE_IDS))
         self.leases = Leases(self)
+        self.looking = Looking(self)
         self.forced_breaks = ForcedBreaks(self)
         self.commands = Commands(self)
 

@@ -50,7 +50,7 @@ class SetInfo(Handlers):
         elif number == POSITION:
             opened.position = signed(data[:8])
         elif number in (ALLOCATION, END_OF_FILE):
-            yield from self._resize(opened, int.from_bytes(data[:8], "little"), number == END_OF_FILE)
+            yield from self._resize(request, opened, int.from_bytes(data[:8], "little"), number == END_OF_FILE)
         return Answer(Status.SUCCESS, struct.pack("<H", 2))
 
     def _set_basic(self, opened: Open, data: bytes) -> None:
@@ -126,14 +126,17 @@ class SetInfo(Handlers):
         if not self._server.names.may_remove(node):
             raise StatusError(Status.ACCESS_DENIED)
 
-    def _resize(self, opened: Open, size: int, is_end: bool) -> Steps:
-        """An allocation of less than there is cuts the file off too."""
+    def _resize(self, request: Request, opened: Open, size: int, is_end: bool) -> Steps:
+        """An allocation of less than there is cuts the file off too; any has all others cache nothing (MS-FSA 2.1.5.14.1)."""
         node, limit = opened.node, self._server.settings.limit
         if opened.client is None or not writes(opened.access):
             raise StatusError(Status.ACCESS_DENIED)
         if size > limit:
             raise StatusError(Status.INVALID_PARAMETER)
+        self._server.leases.break_own_level_ii(opened)
         if not is_end:
             node.allocated = size
         if is_end or size < node.stat.st_size:
             yield from resizing(self._server.record, opened, size)
+        else:
+            yield from self._server.forced_breaks.break_all(request, opened, lambda: None)

@@ -77,6 +77,7 @@ class Transfers(Handlers):
             record.wrote(client, node, number, offset, data)
 
         def change() -> None:
+            self._server.leases.break_own_level_ii(opened)
             if data:
                 write_bytes(node.file, offset, data)
                 node.shown.changed(node.identity)
