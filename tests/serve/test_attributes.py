@@ -11,7 +11,7 @@ import pytest
 
 from smblease import Rules, Status
 from smblease.drive.headers import Command, Message
-from smblease.serve.create_parameters import OPEN, OVERWRITE_IF
+from smblease.serve.create_parameters import CREATE, DELETE_ON_CLOSE, OPEN, OVERWRITE_IF
 from smblease.serve.server_process import ServerProcess
 from tests.serve.conftest import Connect, Start
 from tests.serve.in_process import FrameClient, Sent, server_in
@@ -54,6 +54,14 @@ def everywhere(client: "WireClient", name: str, options: int = 0) -> set[Told]:
     client.ask(close(folder))
     return {by_create(looked), Told(information.number(72, 8), information.number(104, 4)),
             Told(entry.number(80, 8), entry.number(128, 4)), Told(closed.number(72, 8), closed.number(120, 4))}
+
+
+def test_what_is_to_be_read_alone_and_to_be_deleted(shared: ServerProcess, connect: Connect) -> None:
+    """Nothing is made like that (MS-FSA 2.1.5.1.1)."""
+    one = connect(shared)
+    made = with_attributes(create("contrary", access=0x10080, disposition=CREATE, options=DELETE_ON_CLOSE), READ_ONLY)
+    assert one.status(made) == Status.CANNOT_DELETE
+    assert one.status(create("contrary", disposition=OPEN)) == Status.OBJECT_NAME_NOT_FOUND
 
 
 @pytest.mark.parametrize("attributes, told", [

@@ -150,3 +150,10 @@ def test_any_bytes(data: bytes) -> None:
             assert split_compound(text)
         except Unreadable:
             continue
+
+
+def test_a_command_that_there_is_not(served: ServerProcess, connect: Connect) -> None:
+    """It is refused like a request that can't be read: smbtorture's compound.invalid4."""
+    one = connect(served)
+    one.stream.sendall(frame(header(0xFF, one.number, one.session, one.tree) + ECHO[1]))
+    assert one.receive().status == Status.INVALID_PARAMETER

@@ -43,6 +43,15 @@ def test_one_file(shared: ServerProcess, connect: Connect, one: str, other: str)
         assert client.status(create(names[1], disposition=OPEN)) == Status.SUCCESS
 
 
+def test_a_stream_with_its_type(shared: ServerProcess, connect: Connect) -> None:
+    """$DATA is the type of all streams, and no part of a name (MS-FSCC 2.1.5)."""
+    one = connect(shared)
+    one.ask(write(one.open(create("typed:stream:$DATA")), 0, b"kept"))
+    for name in ("typed:stream", "TYPED:STREAM:$data"):
+        assert one.ask(read(one.open(create(name, disposition=OPEN)))).data[80:] == b"kept"
+    assert one.status(create("typed:stream:$other", disposition=OPEN)) == Status.OBJECT_NAME_INVALID
+
+
 @pytest.mark.parametrize("name", ["\ud800", "a\udc00", "\udc00\ud800", "\ud83da"])
 def test_half_of_a_surrogate_pair(shared: ServerProcess, connect: Connect, name: str) -> None:
     """Nothing has it in its name."""

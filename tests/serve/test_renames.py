@@ -86,8 +86,9 @@ def test_a_file_that_was_opened_meanwhile(waiting: Waiting) -> None:
 
 
 def test_a_folder_that_was_removed_meanwhile(waiting: Waiting) -> None:
-    folder = waiting.other.open(create("folder", access=DELETING, options=DIRECTORY_FILE))
+    waiting.other.ask(close(waiting.other.open(create("folder", access=LIST, options=DIRECTORY_FILE))))
     waiting.begin(rename(waiting.opened, "folder\\new"))
+    folder = waiting.other.open(create("folder", access=DELETING, options=DIRECTORY_FILE))
     assert waiting.other.status(set_info(folder, 13, b"\1")) == Status.SUCCESS
     assert waiting.other.status(close(folder)) == Status.SUCCESS
     assert waiting.end() == Status.OBJECT_PATH_NOT_FOUND
@@ -201,3 +202,39 @@ def test_a_file_that_may_only_be_read_is_not_replaced(served: ServerProcess, con
     assert one.status(set_info(kept, 4, bytes(32) + (1).to_bytes(4, "little") + bytes(4))) == Status.SUCCESS
     one.ask(close(kept))
     assert one.status(rename(one.open(create("file", access=DELETING)), "kept")) == Status.ACCESS_DENIED
+
+
+@pytest.mark.parametrize("access, expected", [(DELETING, Status.SHARING_VIOLATION), (LIST, Status.SUCCESS)])
+def test_a_folder_that_somebody_may_delete(served: ServerProcess, connect: Connect, access: int, expected: Status) -> None:
+    """Nothing gets a new name in it, as smbtorture's rename.share_delete_and_delete_access has it."""
+    one, other = connect(served), connect(served)
+    folder = other.open(create("folder", access=access, options=DIRECTORY_FILE))
+    opened = one.open(create("file", access=DELETING))
+    assert one.status(rename(opened, "folder\\file")) == expected
+    other.ask(close(folder))
+    assert one.status(rename(opened, "folder\\other")) == Status.SUCCESS
+
+
+@pytest.mark.parametrize("access", [LIST, DELETING, 0x80])
+def test_a_folder_with_something_open_in_it(served: ServerProcess, connect: Connect, access: int) -> None:
+    """It keeps its name (MS-FSA 2.1.5.14.11)."""
+    one, other = connect(served), connect(served)
+    folder = one.open(create("folder", access=DELETING, options=DIRECTORY_FILE))
+    one.ask(close(one.open(create("folder\\below", access=LIST, options=DIRECTORY_FILE))))
+    opened = other.open(create("folder\\below\\file", access=access))
+    assert one.status(rename(folder, "new")) == Status.ACCESS_DENIED
+    other.ask(close(opened))
+    assert one.status(rename(folder, "new")) == Status.SUCCESS
+    assert one.status(create("new\\below\\file", disposition=OPEN)) == Status.SUCCESS
+
+
+@pytest.mark.parametrize("closes, expected", [(True, Status.SUCCESS), (False, Status.ACCESS_DENIED)])
+def test_a_folder_with_a_file_whose_handle_is_cached(served: ServerProcess, connect: Connect, closes: bool, expected: Status) -> None:
+    """It is asked for first."""
+    one, holder = connect(served), connect(served)
+    folder = one.open(create("folder", access=DELETING, options=DIRECTORY_FILE))
+    opened = holder.open(leased("folder\\file", KEY, "RH"))
+    number = one.send(rename(folder, "new"))
+    assert (one.receive().status, holder.receive().number(92, 4)) == (Status.PENDING, 1)
+    holder.ask(close(opened) if closes else acknowledgment(KEY, "R"))
+    assert one.answer_to(number).status == expected

@@ -42,7 +42,7 @@ class Commands:
 
     def check_known(self, command: Command | None) -> None:
         if command not in self._handlers:
-            raise StatusError(Status.NOT_SUPPORTED)
+            raise StatusError(Status.INVALID_PARAMETER)
 
     def handler(self, request: Request) -> Handler:
         """What handles a request, whose command is known. One without the tree that it needs is refused."""

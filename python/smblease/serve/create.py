@@ -81,6 +81,8 @@ class Create(Handlers):
             if wanted.disposition not in MAKING:
                 known = self._server.names.has_folder_of(wanted.path)
                 raise StatusError(Status.OBJECT_NAME_NOT_FOUND if known else Status.OBJECT_PATH_NOT_FOUND)
+            if wanted.options & DELETE_ON_CLOSE and wanted.attributes & READ_ONLY:
+                raise StatusError(Status.CANNOT_DELETE)
             return CREATED
         if node.is_deleting:
             raise StatusError(Status.DELETE_PENDING)

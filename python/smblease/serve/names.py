@@ -8,6 +8,7 @@ from smblease.serve.status_error import StatusError
 
 FORBIDDEN = set('"*/<>?|') | {chr(code) for code in range(32)}
 LONGEST = 255
+STREAM_TYPE = ":$DATA"
 FINAL_SIGMA, SIGMA = "\u03c2", "\u03a3"
 
 
@@ -38,6 +39,8 @@ def _upper(letter: str) -> str:
 def path_of(name: str) -> str:
     """A name as it comes, without the strokes around it. A stream has the name of its file and a colon before its own."""
     path = name.strip("\\").replace("::$DATA", "")
+    if path.count(":") == 2 and path.upper().endswith(STREAM_TYPE):
+        path = path[:-len(STREAM_TYPE)]
     parts = path.split("\\")
     if path and any(not part or part in (".", "..") or len(part) > LONGEST or FORBIDDEN & set(part) for part in parts):
         raise StatusError(Status.OBJECT_NAME_INVALID)

@@ -73,6 +73,13 @@ class Namespace:
         """What is held of this name in a folder."""
         return self._held.get(joined(folder.path, name))
 
+    def held_at(self, path: str) -> Node | None:
+        return self._held.get(path)
+
+    def opened_below(self, folder: Node) -> list[Node]:
+        """What somebody has open in a folder, or deeper."""
+        return [it for it in self._held.values() if it.opens and it.path.startswith(f"{folder.path}\\")]
+
     def folder_of(self, path: str) -> str:
         """The folder that a new name is for. It is refused where that isn't there, or not for long."""
         folder = self.disk.locate_folder(split(path)[0])

@@ -12,10 +12,13 @@ from smblease.serve.node import Node, allocation, attributes_in
 from smblease.serve.opens import Open
 from smblease.serve.packets import Answer
 from smblease.serve.request import Handlers, Request
+from smblease.serve.security import DESCRIPTOR
 from smblease.serve.status_error import StatusError
 
 FILE, FILESYSTEM, SECURITY = 1, 2, 3
 SECTOR = 512
+# FSCTL_CREATE_OR_GET_OBJECT_ID, and those that are about no file (2.2.31)
+OBJECT_ID, WITHOUT_FILE = 0x900C0, {0x60194, 0x601B0, 0x110018, 0x1401FC, 0x140204}
 LABEL = "leasecheck".encode("utf-16le")
 SYSTEM = "NTFS".encode("utf-16le")
 SERIAL = 0x1EA5E
@@ -67,10 +70,6 @@ FILESYSTEM_CLASSES: dict[int, Callable[[os.statvfs_result], bytes]] = {
     7: lambda it: struct.pack("<QQQLL", it.f_blocks, it.f_bavail, it.f_bfree, max(1, it.f_frsize // SECTOR), SECTOR),
     11: lambda _: struct.pack("<LLLLLLL", SECTOR, SECTOR, SECTOR, SECTOR, 0, 0, 0),
 }
-# Owner and group are everyone, and so is who may do all.
-EVERYONE = bytes.fromhex("010100000000000100000000")
-DESCRIPTOR = struct.pack("<BBHLLLL", 1, 0, 0x8004, 20, 32, 0, 44) + EVERYONE * 2 + struct.pack(
-    "<BBHHHBBHL", 2, 0, 28, 1, 0, 0, 0, 20, 0x1F01FF) + EVERYONE
 
 
 class QueryInfo(Handlers):
@@ -96,7 +95,20 @@ class QueryInfo(Handlers):
 
     @staticmethod
     def control(request: Request) -> Answer:
-        raise StatusError(Status.INVALID_DEVICE_REQUEST)
+        """IOCTL (3.3.5.15): of a file its object's identifier alone (MS-FSCC 2.3.1)."""
+        message = request.message
+        code, most = message.number(HEADER + 4, 4), message.number(HEADER + 44, 4)
+        if code in WITHOUT_FILE:
+            raise StatusError(Status.INVALID_DEVICE_REQUEST)
+        found = request.open().node.stat
+        if code != OBJECT_ID:
+            raise StatusError(Status.INVALID_DEVICE_REQUEST)
+        if most < 64:
+            raise StatusError(Status.BUFFER_TOO_SMALL)
+        number = struct.pack("<QQ", found.st_ino, found.st_dev)
+        volume = struct.pack("<QQ", SERIAL, found.st_dev)
+        head = struct.pack("<HHL16sLLLLLL", 49, 0, code, message.part(HEADER + 8, 16), HEADER + 48, 0, HEADER + 48, 64, 0, 0)
+        return Answer(Status.SUCCESS, head + number + volume + number + bytes(16))
 
     @staticmethod
     def notify(request: Request) -> Answer:

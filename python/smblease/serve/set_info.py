@@ -12,9 +12,10 @@ from smblease.serve.names import folded, path_of, text_of
 from smblease.serve.node import Node
 from smblease.serve.opens import DELETE, WRITE_ATTRIBUTES, Open, writes
 from smblease.serve.packets import Answer
-from smblease.serve.query_info import FILE
+from smblease.serve.query_info import FILE, SECURITY
 from smblease.serve.request import Handlers, Request
 from smblease.serve.resizing import resizing
+from smblease.serve.security import check_descriptor
 from smblease.serve.status_error import StatusError
 from smblease.serve.times import on_disk
 
@@ -37,6 +38,9 @@ class SetInfo(Handlers):
         kind, number, length = message.number(HEADER + 2, 1), message.number(HEADER + 3, 1), message.number(HEADER + 4, 4)
         data = message.buffer(HEADER + 8, length)
         opened = request.open()
+        if kind == SECURITY:
+            check_descriptor(data, message.number(HEADER + 12, 4), opened.access)
+            return Answer(Status.SUCCESS, struct.pack("<H", 2))
         if kind != FILE or number not in LEAST:
             raise StatusError(Status.NOT_SUPPORTED)
         if len(data) < LEAST[number]:
@@ -80,7 +84,10 @@ class SetInfo(Handlers):
             raise StatusError(Status.INFO_LENGTH_MISMATCH)
         path, node = path_of(text_of(data[20:20 + length])), opened.node
         self._check_new_name(node, path, bool(data[0]))
+        yield from self._break_below(request, node)
         yield from self._break_handles(request, opened)
+        if self._server.names.opened_below(node):
+            raise StatusError(Status.ACCESS_DENIED)
         self._server.names.rename(node, path, self._check_new_name(node, path, bool(data[0])))
         self._server.record.start(node)
 
@@ -90,7 +97,7 @@ class SetInfo(Handlers):
             raise StatusError(Status.OBJECT_PATH_NOT_FOUND)
         if ":" in path or node.is_stream:
             raise StatusError(Status.NOT_SUPPORTED)
-        self._server.names.folder_of(path)
+        self._check_folder(self._server.names.folder_of(path))
         target = self._server.names.find(path)
         if target is None or target is node:
             return None
@@ -99,6 +106,18 @@ class SetInfo(Handlers):
         if target.is_folder or target.opens or target.is_read_only:
             raise StatusError(Status.ACCESS_DENIED)
         return target
+
+    def _check_folder(self, path: str) -> None:
+        """The folder of a new name is opened to add to it, which shares no deletion."""
+        folder = self._server.names.held_at(path)
+        if folder and any(it.access & DELETE for it in folder.opens):
+            raise StatusError(Status.SHARING_VIOLATION)
+
+    def _break_below(self, request: Request, folder: Node) -> Steps:
+        """A folder isn't renamed while something in it is open (MS-FSA 2.1.4.2, 2.1.5.14.11); who holds handles there gives them
+        up first."""
+        for node in self._server.names.opened_below(folder):
+            yield from self._server.forced_breaks.break_handles(request, node, None, None)
 
     def _break_handles(self, request: Request, opened: Open) -> Steps:
         """Has others give up handles; the open may be closed meanwhile."""
