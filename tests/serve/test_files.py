@@ -3,13 +3,12 @@ from __future__ import annotations
 
 import pytest
 
-from smblease import CreateAnswer, CreateAsk, LeaseState, Status
+from smblease import CreateAnswer, LeaseState, Status
 from smblease.drive.headers import Command, Message
 from smblease.serve.create_parameters import CREATE, DELETE_ON_CLOSE, OPEN, OVERWRITE, OVERWRITE_IF
 from smblease.serve.server_process import ServerProcess
 from tests.serve.conftest import Connect
-from tests.serve.requests import (KEY, OTHER_KEY, acknowledge_oplock, acknowledgment, close, create, leased, lock, read, set_info,
-                                  write)
+from tests.serve.requests import KEY, acknowledge_oplock, acknowledgment, close, create, leased, lock, read, set_info, write
 
 DELETING = 0x13019F
 UNLOCK = 4

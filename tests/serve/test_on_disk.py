@@ -188,16 +188,16 @@ def test_what_is_on_disk_in_the_end(one: "WireClient", folder: Path) -> None:
     assert os.listdir(folder) == []
 
 
-def test_a_folder_with_open_files_is_renamed(one: "WireClient", folder: Path) -> None:
-    """They are found by their new paths, streams too."""
-    below = one.open(create("below", access=DELETING, options=DIRECTORY_FILE))
-    opened, stream = one.open(create("below\\file", access=DELETING)), one.open(create("below\\file:stream"))
+def test_a_file_with_an_open_stream_is_renamed(one: "WireClient", folder: Path) -> None:
+    """The stream is found by the new path. (A folder with something open in it keeps its name, see test_renames.py.)"""
+    one.open(create("below", access=0x81, options=DIRECTORY_FILE))
+    opened, stream = one.open(create("file", access=DELETING)), one.open(create("file:stream"))
     one.ask(write(stream, 0, b"stream"))
-    assert one.status(rename(below, "moved")) == Status.SUCCESS
-    assert content(one, "moved\\file:STREAM") == b"stream"
+    assert one.status(rename(opened, "below\\moved")) == Status.SUCCESS
+    assert content(one, "below\\moved:STREAM") == b"stream"
     assert one.status(set_info(opened, 13, b"\1")) == Status.SUCCESS
     one.ask(close(opened))
-    assert os.listdir(folder / "moved") == []
+    assert os.listdir(folder / "below") == []
     assert one.status(read(stream)) == Status.SUCCESS
 
 

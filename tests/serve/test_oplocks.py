@@ -40,7 +40,7 @@ def looking(name: str, key: bool = False, access: int = ATTRIBUTES, durable: boo
 
 @pytest.mark.parametrize("disposition", [OVERWRITE, OVERWRITE_IF, SUPERSEDE])
 @pytest.mark.parametrize("level", [EXCLUSIVE, BATCH])
-def test_an_overwrite_breaks_an_oplock_to_none_at_once(shared: ServerProcess, connect: Connect, level: int, disposition: int) -> None:
+def test_an_overwrite_breaks_an_oplock_to_none(shared: ServerProcess, connect: Connect, level: int, disposition: int) -> None:
     """As smbtorture's exclusive5 and batch13 to batch16 have it; level II isn't left to be had."""
     one, other, name = connect(shared), connect(shared), f"overwritten-{level}-{disposition}"
     opened = file_id(one.ask(create(name, level=level)))
@@ -53,7 +53,7 @@ def test_an_overwrite_breaks_an_oplock_to_none_at_once(shared: ServerProcess, co
     assert (done.status, level_of(done), one.has_more(QUIET)) == (Status.SUCCESS, LEVEL_II, False)
 
 
-def test_an_overwrite_breaks_a_lease_to_none_at_once(served: ServerProcess, connect: Connect) -> None:
+def test_an_overwrite_breaks_a_lease_to_none(served: ServerProcess, connect: Connect) -> None:
     """As smbtorture's lease.breaking2 has it: what is acknowledged is no more than what was left (3.3.5.22.2)."""
     one, other = connect(served), connect(served)
     one.open(leased("file", KEY, "RWH"))

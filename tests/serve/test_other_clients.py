@@ -9,7 +9,8 @@ from pathlib import Path
 import pytest
 
 from smblease.serve.server_process import ServerProcess
-from smblease.serve.torture_command import Kind, run_test
+from smblease.serve.torture_command import run_test
+from smblease.serve.torture_suites import Kind
 from tests import needs
 from tests.serve.conftest import Start
 from tests.serve.listened import Listened

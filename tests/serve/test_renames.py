@@ -229,7 +229,8 @@ def test_a_folder_with_something_open_in_it(served: ServerProcess, connect: Conn
 
 
 @pytest.mark.parametrize("closes, expected", [(True, Status.SUCCESS), (False, Status.ACCESS_DENIED)])
-def test_a_folder_with_a_file_whose_handle_is_cached(served: ServerProcess, connect: Connect, closes: bool, expected: Status) -> None:
+def test_a_folder_with_a_file_whose_handle_is_cached(served: ServerProcess, connect: Connect, closes: bool,
+                                                     expected: Status) -> None:
     """It is asked for first."""
     one, holder = connect(served), connect(served)
     folder = one.open(create("folder", access=DELETING, options=DIRECTORY_FILE))

@@ -168,7 +168,8 @@ class Create(Handlers):
             yield from self._server.close_in_manager(client, node, decided.file_id)
             raise
 
-    def _refuse_unshared(self, wanted: CreateParameters, hides: bool, client: ManagerClient, node: Node, decided: Opened) -> Steps:
+    def _refuse_unshared(self, wanted: CreateParameters, hides: bool, client: ManagerClient, node: Node,
+                         decided: Opened) -> Steps:
         """What the shell guards may have been opened while it waited."""
         if any(conflicts(wanted, it) or hides and reads(it.access) for it in node.opens):
             yield from self._server.close_in_manager(client, node, decided.file_id)

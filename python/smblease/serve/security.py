@@ -24,14 +24,20 @@ def check_descriptor(data: bytes, parts: int, access: int) -> None:
     if parts & ACCESS and not access & WRITE_ACCESS or parts & (OWNER | GROUP) and not access & WRITE_OWNER:
         raise StatusError(Status.ACCESS_DENIED)
     try:
-        _, _, control, owner, group, _, entries = HEAD.unpack_from(data)
-        is_so = (not (parts & OWNER and data[owner:owner + 12] != EVERYONE or parts & GROUP and data[group:group + 12] != EVERYONE)
-                 and not (parts & AUDITING and control & HAS_AUDITING)
-                 and (not parts & ACCESS or not control & HAS_LIST or not entries or _lets_everyone(data[entries:])))
+        is_so = _says_what_is_so(data, parts)
     except struct.error:
         raise StatusError(Status.INVALID_PARAMETER) from None
     if not is_so:
         raise StatusError(Status.NOT_SUPPORTED)
+
+
+def _says_what_is_so(data: bytes, parts: int) -> bool:
+    _, _, control, owner, group, _, entries = HEAD.unpack_from(data)
+    if parts & OWNER and data[owner:owner + 12] != EVERYONE or parts & GROUP and data[group:group + 12] != EVERYONE:
+        return False
+    if parts & AUDITING and control & HAS_AUDITING:
+        return False
+    return not (parts & ACCESS and control & HAS_LIST and entries) or _lets_everyone(data[entries:])
 
 
 def _lets_everyone(text: bytes) -> bool:

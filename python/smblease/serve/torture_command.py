@@ -100,7 +100,8 @@ def _last_status(output: str) -> str:
     return " ".join((lines or output.splitlines() or ["nothing"])[-1].split())
 
 
-def run_tests(tests: Sequence[str], server: Callable[[str], ServerProcess | PrivateServer], arguments: argparse.Namespace) -> list[Row]:
+def run_tests(tests: Sequence[str], server: Callable[[str], ServerProcess | PrivateServer],
+              arguments: argparse.Namespace) -> list[Row]:
     """Prints each row as soon as those before it are there."""
     rows: list[Row] = []
     with ThreadPoolExecutor(arguments.jobs) as pool:
