@@ -6,6 +6,7 @@ import struct
 from smblease import Access, Context, CreateAnswer, CreateAsk, LeaseState, Share, Status, append_context
 from smblease.drive.headers import HEADER
 from smblease.manager_decisions import Opened
+from smblease.serve.access import ALL_ACCESS, is_of_attributes, is_stat, reads, writes
 from smblease.serve.asks import Handling, Steps, Waits, opening
 from smblease.serve.attributes import attributes_of
 from smblease.serve.create_parameters import (ALLOCATION, CREATE, CREATED, DELETE_ON_CLOSE, DIRECTORY_FILE, MAKING, MOST_ACCESS,
@@ -14,8 +15,7 @@ from smblease.serve.create_parameters import (ALLOCATION, CREATE, CREATED, DELET
                                               oplock_state, read_parameters)
 from smblease.serve.kept_attributes import HIDDEN, READ_ONLY, SYSTEM, keep
 from smblease.serve.node import Node
-from smblease.serve.opens import (ALL_ACCESS, BATCH, LEASE, NO_LEVEL, SHARE_READ, ManagerClient, Open, counts, is_of_attributes,
-                                  is_stat, reads, writes)
+from smblease.serve.opens import BATCH, LEASE, NO_LEVEL, ManagerClient, Open
 from smblease.serve.packets import Answer
 from smblease.serve.request import Handlers, Request
 from smblease.serve.resizing import resizing
@@ -108,13 +108,13 @@ class Create(Handlers):
             raise StatusError(Status.INVALID_PARAMETER)
 
     def _folder(self, request: Request, wanted: CreateParameters, node: Node) -> Open:
-        if any(conflicts(wanted, it) for it in node.opens):
+        if conflicts(wanted, node.opens):
             raise StatusError(Status.SHARING_VIOLATION)
         return self._kept(request, wanted, node)
 
     def _file(self, request: Request, wanted: CreateParameters, node: Node, action: int) -> Waits[tuple[Open, bytes]]:
         """An open of a file, and the contexts of its reply."""
-        if any(conflicts(wanted, it) for it in node.opens):
+        if conflicts(wanted, node.opens):
             yield from self._resolve_conflicts(request, wanted, node)
         if writes(wanted.access) or wanted.empties:
             self._server.names.make_writable(node)
@@ -132,13 +132,12 @@ class Create(Handlers):
             if client.guid is None:
                 self._server.free(client)
             raise
-        opened = self._granted(request, wanted, node, client, decided)
-        opened.hides_reading = hides
+        opened = self._granted(request, wanted, node, client, decided, hides)
         yield from self._after_grant(request, wanted, opened, action)
         return opened, decided.answer.write() if not client.open else self._oplock_contexts(opened)
 
     def _file_without_data(self, request: Request, wanted: CreateParameters, node: Node) -> Waits[Open]:
-        if not is_stat(wanted.access) or not is_of_attributes(wanted.access) and any(it.has_oplock for it in node.opens):
+        if not is_stat(wanted.access) or not is_of_attributes(wanted.access) and node.opens.oplocks:
             yield from self._break_writes_of_others(request, node)
         if node.is_gone:
             raise Vanished
@@ -171,7 +170,7 @@ class Create(Handlers):
     def _refuse_unshared(self, wanted: CreateParameters, hides: bool, client: ManagerClient, node: Node,
                          decided: Opened) -> Steps:
         """What the shell guards may have been opened while it waited."""
-        if any(conflicts(wanted, it) or hides and reads(it.access) for it in node.opens):
+        if conflicts(wanted, node.opens) or hides and node.opens.reading:
             yield from self._server.close_in_manager(client, node, decided.file_id)
             raise StatusError(Status.SHARING_VIOLATION)
 
@@ -185,19 +184,18 @@ class Create(Handlers):
         yield from self._server.forced_breaks.break_handles(request, node, request.client, wanted.key)
         if node.is_gone:
             raise Vanished
-        if any(conflicts(wanted, it) for it in node.opens):
+        if conflicts(wanted, node.opens):
             raise StatusError(Status.SHARING_VIOLATION)
 
     def _break_writes_of_others(self, request: Request, node: Node) -> Steps:
         """An open without data breaks as one that reads: that is made, and closed at once."""
-        if all(it.share & SHARE_READ or not counts(it.access) for it in node.opens) and any(it.client for it in node.opens):
+        if not node.opens.without_reading and any(it.client for it in node.opens):
             yield from self._server.forced_breaks.open_and_close(request, node, Share.READ_WRITE)
 
     def _manager_client(self, request: Request, wanted: CreateParameters, node: Node) -> tuple[ManagerClient, CreateAsk]:
         """Who asks the manager, and for what: an oplock is a lease under a key of its own."""
-        has_handles = any(it.lease and LeaseState.H in it.lease.state and not it.has_oplock for it in node.opens)
-        if wanted.level in (LEASE, NO_LEVEL) or has_handles:
-            return request.client, wanted.lease_ask(any(it.has_oplock for it in node.opens))
+        if wanted.level in (LEASE, NO_LEVEL) or node.opens.with_handles:
+            return request.client, wanted.lease_ask(bool(node.opens.oplocks))
         others = any(it.client and (it.is_connected or not self._may_write(it)) for it in node.opens)
         state = LeaseState.R if others else oplock_state(wanted.level)
         client = self._server.borrow(request.connection, f"an oplock of client {request.client.number}")
@@ -207,27 +205,37 @@ class Create(Handlers):
     def _may_write(opened: Open) -> bool:
         return bool(opened.lease and LeaseState.W in opened.lease.state)
 
-    def _granted(self, request: Request, wanted: CreateParameters, node: Node, client: ManagerClient, decided: Opened) -> Open:
+    def _granted(self, request: Request, wanted: CreateParameters, node: Node, client: ManagerClient, decided: Opened,
+                 hides: bool) -> Open:
         """The open that the manager made."""
-        opened = self._kept(request, wanted, node, decided.file_id)
+        opened = self._new(request, wanted, node, decided.file_id)
         opened.client, opened.is_durable = client, decided.answer.durable
         opened.is_lent = wanted.empties or not (reads(wanted.access) or writes(wanted.access))
+        opened.hides_reading = hides
         client.opens += 1
         if client.guid is None:
             client.open = opened
         if decided.answer.key:
             opened.key = decided.answer.key
             opened.level = LEASE if client.guid else level_of(wanted.level, decided.answer.state)
-            self._server.leases.granted(client, opened, decided.answer)
+        self._keep(opened)
+        self._server.leases.granted(client, opened, decided.answer)
         return opened
 
-    def _kept(self, request: Request, wanted: CreateParameters, node: Node, file_id: int | None = None) -> Open:
-        """An open of the manager's by its FileId, or one of the shell's own."""
-        opened = Open(file_id or next(self._server.own_file_ids), node, wanted.access, wanted.share, request.connection,
-                      request.session, request.tree, deletes=bool(wanted.options & DELETE_ON_CLOSE), owner=request.session.owner,
-                      writes_through=bool(wanted.options & WRITE_THROUGH))
-        self._server.names.hold(node)
-        node.opens.append(opened)
+    def _kept(self, request: Request, wanted: CreateParameters, node: Node) -> Open:
+        """An open of the shell's own."""
+        return self._keep(self._new(request, wanted, node, next(self._server.own_file_ids)))
+
+    @staticmethod
+    def _new(request: Request, wanted: CreateParameters, node: Node, file_id: int) -> Open:
+        session = request.session
+        return Open(file_id, node, wanted.access, wanted.share, request.connection, session, request.tree,
+                    deletes=bool(wanted.options & DELETE_ON_CLOSE), owner=session.owner,
+                    writes_through=bool(wanted.options & WRITE_THROUGH))
+
+    def _keep(self, opened: Open) -> Open:
+        self._server.names.hold(opened.node)
+        opened.node.opens.add(opened)
         self._server.opens[opened.file_id] = opened
         return opened
 

@@ -8,10 +8,11 @@ from uuid import UUID
 
 from smblease import Access, CreateAsk, Fault, LeaseState, Share, Status, each_context
 from smblease.drive.headers import HEADER, Unreadable
+from smblease.serve.access import DELETE, SHARE_DELETE, counts, reads, specific, writes
 from smblease.serve.kept_attributes import ARCHIVE
 from smblease.serve.names import path_of, text_of
-from smblease.serve.opens import (BATCH, DELETE, EXCLUSIVE, LEASE, LEVEL_II, NO_LEVEL, SHARE_DELETE, Open, counts, reads,
-                                  specific, writes)
+from smblease.serve.opens import BATCH, EXCLUSIVE, LEASE, LEVEL_II, NO_LEVEL
+from smblease.serve.opens_of_file import OpensOfFile
 from smblease.serve.packets import RequestMessage
 from smblease.serve.status_error import StatusError
 
@@ -110,15 +111,13 @@ def check(wanted: CreateParameters, limit: int) -> None:
         raise StatusError(Status.ACCESS_DENIED)
 
 
-def conflicts(wanted: CreateParameters, other: Open) -> bool:
-    """Whether one deletes and the other doesn't share that; what is read and written is shared by the manager's rules, unless the
+def conflicts(wanted: CreateParameters, others: OpensOfFile) -> bool:
+    """Whether one deletes and another doesn't share that; what is read and written is shared by the manager's rules, unless the
     manager wasn't told of it."""
-    if not counts(wanted.access) or not counts(other.access):
+    if not counts(wanted.access):
         return False
-    if other.hides_reading and reads(wanted.access):
-        return True
-    return bool(wanted.access & DELETE and not other.share & SHARE_DELETE
-                or other.access & DELETE and not wanted.share & SHARE_DELETE)
+    return bool(others.hiding and reads(wanted.access) or others.without_deletion and wanted.access & DELETE
+                or others.deleting and not wanted.share & SHARE_DELETE)
 
 
 def oplock_state(level: int) -> LeaseState:

@@ -5,9 +5,10 @@ from collections.abc import Callable
 from uuid import UUID
 
 from smblease import Access, CreateAsk, Share, Status
+from smblease.serve.access import writes
 from smblease.serve.asks import Steps, closing, opening, writing
 from smblease.serve.node import Node
-from smblease.serve.opens import ManagerClient, Open, writes
+from smblease.serve.opens import ManagerClient, Open
 from smblease.serve.request import Handlers, Request
 from smblease.serve.status_error import RefusedByManager, StatusError
 
@@ -16,7 +17,7 @@ class ForcedBreaks(Handlers):
     def break_handles(self, request: Request, node: Node, client: ManagerClient | None, key: UUID | None) -> Steps:
         """Has all others that hold handles give them up, as for a create that shares nothing. It goes by the key of the one
         that asks, which gives up nothing; that it is refused for sharing doesn't matter."""
-        if not any(it.client and it.key for it in node.opens):
+        if not node.opens.leases:
             return
         if client and key:
             yield from self._open_and_close(client, node, Share.NONE, CreateAsk(key))
@@ -36,8 +37,8 @@ class ForcedBreaks(Handlers):
     def break_all(self, request: Request, opened: Open, effect: Callable[[], None]) -> Steps:
         """Has all others give up all that they cache, as for a write of no bytes, in the place of which `effect` is done."""
         node = opened.node
-        others = [it for it in node.opens if it.client and it.key and (it.client is not opened.client or it.key != opened.key)]
-        if not others:
+        own = opened.lease
+        if all(it is own for it in node.opens.leases):
             effect()
         elif opened.client and writes(opened.access):
             yield from writing(opened.client, node, opened.file_id, effect)

@@ -25,10 +25,9 @@ class Leases(Handlers):
         """A reply grants a lease. While a break is in progress nothing new is believed."""
         if answer.key is None:
             return
-        lease = client.leases.setdefault(answer.key, LeaseSeen(answer.key, opened.node, answer.state))
-        if opened not in lease.opens:
-            lease.opens.append(opened)
-        lease.state = answer.state
+        lease = client.leases.setdefault(answer.key, LeaseSeen(answer.key, opened.node, answer.state, client.guid is None))
+        lease.opens[opened] = None
+        lease.become(answer.state)
         if not answer.breaking:
             self._server.record.believes(client, lease, answer.state)
 
@@ -43,7 +42,7 @@ class Leases(Handlers):
             lease.timer = self._server.loop.call_later(self._server.settings.break_timer,
                                                        lambda: self.expire(client, notification.key))
         else:
-            lease.state = state
+            lease.become(state)
             self._server.record.believes(client, lease, state)
         if client.open:
             self._oplock_broken(client.open, state, notification.ack_required)
@@ -58,7 +57,8 @@ class Leases(Handlers):
     def _oplock_broken(self, opened: Open, state: LeaseState, is_acknowledged: bool) -> None:
         """What is left of an oplock is level II, where its lease may still be read under."""
         left = LEVEL_II if LeaseState.R in state else NO_LEVEL
-        was, opened.level = opened.level, left
+        was = opened.level
+        opened.change_level(left)
         if left != was and opened.connection:
             opened.connection.notify(OPLOCK.pack(24, left, 0, 0, opened.file_id, opened.file_id))
         if is_acknowledged and was == LEVEL_II:
@@ -72,7 +72,7 @@ class Leases(Handlers):
         lease = opened.lease
         if opened.level != LEVEL_II or lease is None or opened.client is None:
             return
-        lease.state = LeaseState.NONE
+        lease.become(LeaseState.NONE)
         self._server.record.believes(opened.client, lease, LeaseState.NONE)
         self._oplock_broken(opened, LeaseState.NONE, False)
 
@@ -92,7 +92,7 @@ class Leases(Handlers):
         if not opened.client or not opened.client.open or not opened.key or not opened.is_breaking or level > opened.level:
             raise StatusError(Status.INVALID_OPLOCK_PROTOCOL)
         opened.is_breaking = False
-        opened.level = level
+        opened.change_level(level)
         state = LeaseState.R if level else LeaseState.NONE
         yield from self.acknowledged(opened.client, Acknowledgment(opened.key, state).write())
         return Answer(Status.SUCCESS, OPLOCK.pack(24, level, 0, 0, opened.file_id, opened.file_id))
@@ -102,7 +102,8 @@ class Leases(Handlers):
         lease = self._seen_before(client, body)
         response = yield from acknowledging(client, body)
         if lease:
-            lease.state, lease.broken_by = response.state, None
+            lease.become(response.state)
+            lease.broken_by = None
             self._server.stop_timer(lease)
         return response.write()
 

@@ -50,6 +50,8 @@ class Locking(Handlers):
                     raise StatusError(Status.INVALID_PARAMETER if flags != UNLOCK else Status.RANGE_NOT_LOCKED)
                 opened.locks.remove(found)
         finally:
+            if not opened.locks:
+                opened.node.opens.with_locks.pop(opened, None)
             self._server.host.resume(opened.node.pauses)
 
     def _take(self, request: Request, opened: Open, wanted: list[Lock], waits: bool) -> Steps:
@@ -80,7 +82,7 @@ class Locking(Handlers):
 
 def _take_locks(opened: Open, wanted: list[Lock]) -> None:
     """All of them, or none. Its own exclusive lock keeps an open from no shared one."""
-    if sum(len(it.locks) for it in opened.node.opens) + len(wanted) > MOST_LOCKS:
+    if sum(len(it.locks) for it in opened.node.opens.with_locks) + len(wanted) > MOST_LOCKS:
         raise StatusError(Status.INSUFFICIENT_RESOURCES)
     locks = [*opened.locks]
     for lock in wanted:
@@ -90,6 +92,7 @@ def _take_locks(opened: Open, wanted: list[Lock]) -> None:
             raise Conflict
         locks.append(lock)
     opened.locks = locks
+    opened.node.opens.with_locks[opened] = None
 
 
 def _lock(message: RequestMessage, place: int) -> tuple[Lock, int]:
@@ -100,7 +103,7 @@ def _lock(message: RequestMessage, place: int) -> tuple[Lock, int]:
 
 
 def locks_of_others(opened: Open) -> list[Lock]:
-    return [lock for it in opened.node.opens if it is not opened for lock in it.locks]
+    return [lock for it in opened.node.opens.with_locks if it is not opened for lock in it.locks]
 
 
 def is_kept_from(opened: Open, offset: int, length: int, is_write: bool) -> bool:

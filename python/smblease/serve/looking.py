@@ -6,9 +6,9 @@ from __future__ import annotations
 
 from uuid import UUID
 
-from smblease import LeaseState
+from smblease.serve.access import SHARE_READ
 from smblease.serve.node import Node
-from smblease.serve.opens import SHARE_READ, ManagerClient, Open, counts, is_of_attributes, reads
+from smblease.serve.opens import ManagerClient
 from smblease.serve.request import Handlers
 
 
@@ -17,22 +17,11 @@ class Looking(Handlers):
         """Whether the manager would open it at once, and break nothing."""
         if any(task.asked and task.asked.node is node for task in self._server.host.waiting):
             return False
-        return all((it.share & SHARE_READ or not counts(it.access)) and (_has_key(it, client, key) or not _may_write(it))
-                   for it in node.opens)
+        own = client.leases.get(key) if key else None
+        return not node.opens.without_reading and all(it is own for it in node.opens.with_writes)
 
     @staticmethod
     def hides(node: Node, share: int) -> bool:
         """Whether reading isn't shared, and none but opens of attributes would be in the way of that: the manager is told that it
         is shared, and who reads later is refused by the shell."""
-        if share & SHARE_READ:
-            return False
-        known = [it for it in node.opens if it.client]
-        return any(is_of_attributes(it.access) for it in known) and not any(reads(it.access) for it in known)
-
-
-def _may_write(opened: Open) -> bool:
-    return bool(opened.lease and (LeaseState.W in opened.lease.state or opened.lease.broken_by is not None))
-
-
-def _has_key(opened: Open, client: ManagerClient, key: UUID | None) -> bool:
-    return key is not None and opened.client is client and opened.key == key
+        return not share & SHARE_READ and bool(node.opens.looking) and not node.opens.reading

@@ -7,9 +7,10 @@ from __future__ import annotations
 from collections.abc import Callable, Sequence
 
 from smblease import Access, LeaseState, Share
+from smblease.serve.access import SHARE_READ, SHARE_WRITE, counts
 from smblease.serve.asks import Steps, closing, opening, writing
 from smblease.serve.node import Node
-from smblease.serve.opens import SHARE_READ, SHARE_WRITE, LeaseSeen, ManagerClient, counts
+from smblease.serve.opens import LeaseSeen, ManagerClient
 from smblease.serve.request import Handlers
 from smblease.serve.status_error import RefusedByManager
 

@@ -78,6 +78,8 @@ class Namespace:
 
     def opened_below(self, folder: Node) -> list[Node]:
         """What somebody has open in a folder, or deeper."""
+        if not folder.is_folder:
+            return []
         return [it for it in self._held.values() if it.opens and it.path.startswith(f"{folder.path}\\")]
 
     def folder_of(self, path: str) -> str:

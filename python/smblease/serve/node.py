@@ -7,11 +7,11 @@ from dataclasses import dataclass, field
 from typing import TYPE_CHECKING
 
 from smblease.serve.kept_attributes import FOLDER, NORMAL, NOTHING, READ_ONLY, WRITABLE, Kept, kept_at
+from smblease.serve.opens_of_file import OpensOfFile
 from smblease.serve.shown_files import ON_DISK, ShownFiles
 
 if TYPE_CHECKING:
     from smblease.serve.asks import Pause
-    from smblease.serve.opens import Open
 
 UNIT = 4096
 
@@ -34,7 +34,7 @@ class Node:
     allocated: int = 0
     is_deleting: bool = False
     is_gone: bool = False
-    opens: list[Open] = field(default_factory=list)
+    opens: OpensOfFile = field(default_factory=OpensOfFile)
     # what waits until a lock or an open of it is given up
     pauses: list[Pause] = field(default_factory=list)
 

@@ -13,46 +13,9 @@ if TYPE_CHECKING:
     from smblease.serve.connection import Connection
     from smblease.serve.sessions import Session, Tree
 
-READ_DATA, WRITE_DATA, APPEND_DATA, EXECUTE, READ_ATTRIBUTES, WRITE_ATTRIBUTES, DELETE, READ_CONTROL, SYNCHRONIZE = (
-    0x1, 0x2, 0x4, 0x20, 0x80, 0x100, 0x10000, 0x20000, 0x100000)
-SHARE_READ, SHARE_WRITE, SHARE_DELETE = 1, 2, 4
-ALL_ACCESS = 0x1F01FF
-GENERIC = {0x10000000: ALL_ACCESS, 0x02000000: ALL_ACCESS, 0x80000000: 0x120089, 0x40000000: 0x120116, 0x20000000: 0x1200A0}
 NO_LEVEL, LEVEL_II, EXCLUSIVE, BATCH, LEASE = 0, 1, 8, 9, 0xFF
 # The shell's own FileIds are far from the manager's, which begin at 1.
 OWN_FILE_IDS = 1 << 62
-
-
-def specific(access: int) -> int:
-    """Generic rights as what they stand for."""
-    found = access & 0x01FFFFFF
-    for bit, rights in GENERIC.items():
-        if access & bit:
-            found |= rights
-    return found
-
-
-def reads(access: int) -> bool:
-    return bool(access & (READ_DATA | EXECUTE))
-
-
-def writes(access: int) -> bool:
-    return bool(access & (WRITE_DATA | APPEND_DATA))
-
-
-def is_stat(access: int) -> bool:
-    """Whether an open looks at attributes alone: it breaks nothing and shares with all."""
-    return not access & ~(READ_ATTRIBUTES | WRITE_ATTRIBUTES | SYNCHRONIZE | READ_CONTROL)
-
-
-def is_of_attributes(access: int) -> bool:
-    """Whether an open is of attributes alone, so that it is granted neither an oplock nor a lease."""
-    return not access & ~(READ_ATTRIBUTES | WRITE_ATTRIBUTES | SYNCHRONIZE)
-
-
-def counts(access: int) -> bool:
-    """Whether share access matters for an open."""
-    return bool(reads(access) or writes(access) or access & DELETE)
 
 
 @dataclass(frozen=True)
@@ -105,6 +68,10 @@ class Open:  # pylint: disable=too-many-instance-attributes  # it has the state 
         """Its lease, or that by which the manager has its oplock."""
         return self.client.leases.get(self.key) if self.client and self.key else None
 
+    def change_level(self, level: int) -> None:
+        self.level = level
+        self.node.opens.level_changed(self)
+
     @property
     def has_oplock(self) -> bool:
         return self.level in (LEVEL_II, EXCLUSIVE, BATCH)
@@ -117,12 +84,17 @@ class LeaseSeen:
     key: UUID
     node: Node
     state: LeaseState
-    opens: list[Open] = field(default_factory=list)
+    is_oplock: bool
+    opens: dict[Open, None] = field(default_factory=dict)
     believed: LeaseState = LeaseState.NONE
     # the number of the message by which it is being broken, and what its client was told to keep
     broken_by: int | None = None
     broken_to: LeaseState = LeaseState.NONE
     timer: TimerHandle | None = None
+
+    def become(self, state: LeaseState) -> None:
+        self.state = state
+        self.node.opens.lease_changed(self)
 
 
 @dataclass(eq=False)

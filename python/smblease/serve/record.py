@@ -130,10 +130,13 @@ class Record:
 
     def believes(self, client: ManagerClient, lease: LeaseSeen, state: LeaseState) -> None:
         """A client believes of a file what all its leases there say."""
+        if not self._has(client, lease.node):
+            lease.believed = state
+            return
         before = self._belief(client, lease)
         lease.believed = state
         after = self._belief(client, lease)
-        if before != after and self._has(client, lease.node):
+        if before != after:
             self.fact(note_words(client.number, Believes(lease.node.number, after)))
 
     @staticmethod

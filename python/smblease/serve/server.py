@@ -268,9 +268,10 @@ class Server:  # pylint: disable=too-many-instance-attributes  # its parts find 
         client, lease = opened.client, opened.lease
         if client is None:
             return
-        if lease and opened in lease.opens:
-            lease.opens.remove(opened)
+        if lease:
+            lease.opens.pop(opened, None)
         if lease and not lease.opens:
+            opened.node.opens.lease_changed(lease)
             self.record.believes(client, lease, LeaseState.NONE)
             self.stop_timer(lease)
             del client.leases[lease.key]

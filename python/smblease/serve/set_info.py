@@ -6,11 +6,12 @@ import struct
 
 from smblease import Status
 from smblease.drive.headers import HEADER
+from smblease.serve.access import DELETE, WRITE_ATTRIBUTES, writes
 from smblease.serve.asks import Handling, Steps
 from smblease.serve.kept_attributes import FOLDER, READ_ONLY, TEMPORARY, keep
 from smblease.serve.names import folded, path_of, text_of
 from smblease.serve.node import Node
-from smblease.serve.opens import DELETE, WRITE_ATTRIBUTES, Open, writes
+from smblease.serve.opens import Open
 from smblease.serve.packets import Answer
 from smblease.serve.query_info import FILE, SECURITY
 from smblease.serve.request import Handlers, Request
@@ -110,7 +111,7 @@ class SetInfo(Handlers):
     def _check_folder(self, path: str) -> None:
         """The folder of a new name is opened to add to it, which shares no deletion."""
         folder = self._server.names.held_at(path)
-        if folder and any(it.access & DELETE for it in folder.opens):
+        if folder and folder.opens.deleting:
             raise StatusError(Status.SHARING_VIOLATION)
 
     def _break_below(self, request: Request, folder: Node) -> Steps:

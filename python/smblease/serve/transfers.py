@@ -10,11 +10,12 @@ from functools import partial
 from smblease import Manager, Status
 from smblease.drive.headers import HEADER
 from smblease.manager_decisions import Decisions
+from smblease.serve.access import reads, writes
 from smblease.serve.asks import Handling, Meanwhile, Waits, closing, reading, refused, writing
 from smblease.serve.attributes import attributes_of
 from smblease.serve.disk_bytes import LARGEST, read_bytes, write_bytes
 from smblease.serve.locking import is_kept_from
-from smblease.serve.opens import ManagerClient, Open, reads, writes
+from smblease.serve.opens import ManagerClient, Open
 from smblease.serve.packets import LONGEST_TRANSFER, Answer
 from smblease.serve.request import Handlers, Request
 from smblease.serve.status_error import StatusError

@@ -1,0 +1,70 @@
+"""The opens of one file, and what is asked of all of them together, which costs no more where they are many."""
+from __future__ import annotations
+
+from collections.abc import Iterator
+from typing import TYPE_CHECKING
+
+from smblease import LeaseState
+from smblease.serve.access import DELETE, SHARE_DELETE, SHARE_READ, counts, is_of_attributes, reads
+
+if TYPE_CHECKING:
+    from smblease.serve.opens import LeaseSeen, Open
+
+
+class OpensOfFile:  # pylint: disable=too-many-instance-attributes  # it counts opens by what they do
+    """How many open it to delete, don't share deletion, don't share reading, and of these how many unknown to the manager; and of
+    those that the manager has, how many look at attributes alone, and how many read."""
+
+    def __init__(self) -> None:
+        self._opens: dict[Open, None] = {}
+        self.deleting = self.without_deletion = self.without_reading = self.hiding = self.looking = self.reading = 0
+        # oplocks of any level, by their opens
+        self.oplocks: set[Open] = set()
+        # leases, those by which the manager has oplocks too, and by what they hold; an oplock's handles don't count
+        self.leases: set[LeaseSeen] = set()
+        self.with_handles: set[LeaseSeen] = set()
+        self.with_writes: set[LeaseSeen] = set()
+        self.with_locks: dict[Open, None] = {}
+
+    def __iter__(self) -> Iterator[Open]:
+        return iter(self._opens)
+
+    def __len__(self) -> int:
+        return len(self._opens)
+
+    def add(self, opened: Open) -> None:
+        """Once the manager's client of it is known."""
+        self._opens[opened] = None
+        self._count(opened, 1)
+        self.level_changed(opened)
+
+    def remove(self, opened: Open) -> None:
+        del self._opens[opened]
+        self._count(opened, -1)
+        self.oplocks.discard(opened)
+        self.with_locks.pop(opened, None)
+
+    def _count(self, opened: Open, weight: int) -> None:
+        if counts(opened.access):
+            self.deleting += weight * bool(opened.access & DELETE)
+            self.without_deletion += weight * (not opened.share & SHARE_DELETE)
+            self.without_reading += weight * (not opened.share & SHARE_READ)
+            self.hiding += weight * opened.hides_reading
+        if opened.client:
+            self.looking += weight * is_of_attributes(opened.access)
+            self.reading += weight * reads(opened.access)
+
+    def level_changed(self, opened: Open) -> None:
+        if opened.has_oplock:
+            self.oplocks.add(opened)
+        else:
+            self.oplocks.discard(opened)
+
+    def lease_changed(self, lease: LeaseSeen) -> None:
+        """It is granted, broken, acknowledged or gone."""
+        handles, writes = LeaseState.H in lease.state and not lease.is_oplock, LeaseState.W in lease.state
+        for those, has in ((self.leases, True), (self.with_handles, handles), (self.with_writes, writes)):
+            if has and lease.opens:
+                those.add(lease)
+            else:
+                those.discard(lease)
