@@ -49,10 +49,14 @@ class Manager(ManagerQuestions):
     def _decided(self, call: Callable[..., int], *arguments: object) -> Decisions:
         handle = ctypes.byref(self._handle)
         with self._lock:
-            self._check(call(handle, *arguments))
+            outcome = call(handle, *arguments)
+            if outcome:
+                self._check(outcome)
             found = [structs.ManagerDecision() for _ in range(library.smblease_manager_decision_count(handle))]
             for index, one in enumerate(found):
-                self._check(library.smblease_manager_decision_at(handle, index, ctypes.byref(one)))
+                outcome = library.smblease_manager_decision_at(handle, index, ctypes.byref(one))
+                if outcome:
+                    self._check(outcome)
         return tuple(map(decision_of, found))
 
     def _received(self, call: Callable[..., int], client: int, tag: int, file_id: int, *more: int) -> Decisions:

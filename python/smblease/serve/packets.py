@@ -10,7 +10,8 @@ from smblease.drive.headers import ASYNC, COMMANDS, FROM_SERVER, HEADER, RELATED
 from smblease.drive.packets import PROTOCOL
 
 HEAD = struct.Struct("<4sHHLHHLLQQQ16s")
-# Of a request's header what follows its StructureSize, but for the signature.
+# Of a request's header its beginning and where the next one is; and what follows its StructureSize, but for the signature.
+START = struct.Struct("<4sH14xL")
 FIXED = struct.Struct("<HLHHLLQLLQ")
 ERROR_BODY = struct.pack("<HBBL", 9, 0, 0, 0) + b"\0"
 SIGNED = 8
@@ -25,7 +26,7 @@ SIZES = {Command.NEGOTIATE: 36, Command.SESSION_SETUP: 25, Command.LOGOFF: 4, Co
          Command.IOCTL: 57, Command.ECHO: 4, Command.QUERY_DIRECTORY: 33, Command.CHANGE_NOTIFY: 32, Command.QUERY_INFO: 41,
          Command.SET_INFO: 33}
 # Where a request says how many bytes it sends, and where how many it may be answered: what is together is added.
-PAYLOADS: dict[Command, list[tuple[int, ...]]] = {
+PAYLOADS: dict[Command | None, list[tuple[int, ...]]] = {
     Command.READ: [(4,)], Command.WRITE: [(4,)], Command.QUERY_DIRECTORY: [(28,)], Command.IOCTL: [(28, 40), (32, 44)],
     Command.QUERY_INFO: [(4,), (12,)], Command.SET_INFO: [(4,)], Command.CHANGE_NOTIFY: [(4,)]}
 CREDIT_BYTES = 65536
@@ -74,10 +75,10 @@ class RequestMessage(Message):
 
     def check_charge(self) -> None:
         """What it costs has to be enough for what it transfers (3.3.5.2.5). A charge of 0 is one of 1."""
-        places = PAYLOADS.get(self.command, []) if self.command is not None else []
-        most = max((sum(self.number(HEADER + it, 4) for it in sums) for sums in places), default=0)
-        if most > CREDIT_BYTES * max(1, self.charge):
-            raise Unreadable
+        most = CREDIT_BYTES * max(1, self.charge)
+        for sums in PAYLOADS.get(self.command, ()):
+            if sum([self.number(HEADER + it, 4) for it in sums]) > most:
+                raise Unreadable
 
 
 @dataclass
@@ -146,11 +147,14 @@ def split_compound(frame: bytes, most: int = MOST_IN_FRAME) -> list[RequestMessa
     found: list[RequestMessage] = []
     start, following = 0, HEADER
     while following:
-        head = RequestMessage(frame[start:start + HEADER])
-        following, left = head.number(20, 4), len(frame) - start
-        is_placed = not following or HEADER <= following <= left - HEADER and following % 8 == 0
-        if head.data[:4] != PROTOCOL or head.number(4, 2) != HEADER or not is_placed or len(found) == most:
+        left = len(frame) - start
+        if left < HEADER:
             raise Unreadable
+        protocol, size, following = START.unpack_from(frame, start)
+        is_placed = not following or HEADER <= following <= left - HEADER and following % 8 == 0
+        if protocol != PROTOCOL or size != HEADER or not is_placed or len(found) == most:
+            raise Unreadable
+        # (a frame of one request isn't copied)
         found.append(RequestMessage(frame[start:start + following] if following else frame[start:]))
         start += following
     return found
