@@ -37,8 +37,8 @@ def seconds(work: Callable[[], None]) -> float:
     pytest.param(lambda: create("file", level=LEVEL_II), False, id="each with an oplock"),
 ])
 def test_opens_of_one_file(tmp_path: Path, body: Callable[[], Body], locks: bool) -> None:
-    """After 8,000 of them one costs less than twice what it did at first, and so do a read, a lock and a close. (Where others cache
-    the file a lock breaks what they cache.)"""
+    """After 8,000 of them one costs less than twice what it did at first, and so do a read, a lock and a close. (Where others
+    cache the file a lock breaks what they cache.)"""
     share, streams = tmp_path / "share", tmp_path / "streams"
     share.mkdir()
     streams.mkdir()

@@ -77,7 +77,7 @@ class RequestMessage(Message):
         """What it costs has to be enough for what it transfers (3.3.5.2.5). A charge of 0 is one of 1."""
         most = CREDIT_BYTES * max(1, self.charge)
         for sums in PAYLOADS.get(self.command, ()):
-            if sum([self.number(HEADER + it, 4) for it in sums]) > most:
+            if sum(self.number(HEADER + it, 4) for it in sums) > most:
                 raise Unreadable
 
 

@@ -36,6 +36,7 @@ def parser() -> argparse.ArgumentParser:
     made.add_argument("--all", action="store_true",
                       help="all tests of SMB 2, against this server and then a private smbd, or with --smbd against that alone")
     made.add_argument("--beside", metavar="FILE", help="with --all: what --all --smbd printed, in place of running smbd's again")
+    made.add_argument("--kept", metavar="FILE", help="with --all: what an earlier run printed; those tests aren't run again")
     made.add_argument("--no-guests", action="store_true", help="with its user alone, so that all is signed")
     made.add_argument("--smbd", action="store_true", help="against a private smbd, for comparison; needs root")
     made.add_argument("--rules", default=RULES, metavar="RULES", help=f"with {served} --rules RULES ({RULES})")
@@ -138,11 +139,15 @@ def torture(arguments: argparse.Namespace) -> int:
         raise Usage("--jobs is at least 1")
     if arguments.all and arguments.name:
         raise Usage("--all goes without names")
+    if arguments.kept and not arguments.all:
+        raise Usage("--kept goes with --all")
     if arguments.beside and (arguments.smbd or not arguments.all):
         raise Usage("--beside goes with --all, and without --smbd")
     beside = read_rows(arguments.beside) if arguments.beside else None
     tests = known_tests() if arguments.all else chosen_tests(arguments.name or SUITES)
-    rows = (run_on_smbd if arguments.smbd else run_on_served)(tests, arguments)
+    kept = {row.name: row for row in read_rows(arguments.kept)} if arguments.kept else {}
+    run = run_on_smbd if arguments.smbd else run_on_served
+    rows = [*kept.values(), *run([it for it in tests if it not in kept], arguments)]
     if arguments.all and arguments.smbd:
         print(table([("smbd", rows)]))
     elif arguments.all:
