@@ -28,6 +28,7 @@ class Leases(Handlers):
         lease = client.leases.setdefault(answer.key, LeaseSeen(answer.key, opened.node, answer.state, client.guid is None))
         lease.opens[opened] = None
         lease.become(answer.state)
+        opened.node.opens.lease_changed(lease)
         if not answer.breaking:
             self._server.record.believes(client, lease, answer.state)
 

@@ -271,7 +271,9 @@ class Server:  # pylint: disable=too-many-instance-attributes  # its parts find 
         if lease:
             lease.opens.pop(opened, None)
         if lease and not lease.opens:
-            opened.node.opens.lease_changed(lease)
+            # (they differ where a file has two names)
+            for node in (lease.node, opened.node):
+                node.opens.lease_changed(lease)
             self.record.believes(client, lease, LeaseState.NONE)
             self.stop_timer(lease)
             del client.leases[lease.key]
