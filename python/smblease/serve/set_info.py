@@ -117,8 +117,15 @@ class SetInfo(Handlers):
     def _break_below(self, request: Request, folder: Node) -> Steps:
         """A folder isn't renamed while something in it is open (MS-FSA 2.1.4.2, 2.1.5.14.11); who holds handles there gives them
         up first."""
-        for node in self._server.names.opened_below(folder):
-            yield from self._server.forced_breaks.break_handles(request, node, None, None)
+        names = self._server.names
+        for node in names.opened_below(folder):
+            if not node.opens:
+                continue
+            names.hold(node)
+            try:
+                yield from self._server.forced_breaks.break_handles(request, node, None, None)
+            finally:
+                names.release(node)
 
     def _break_handles(self, request: Request, opened: Open) -> Steps:
         """Has others give up handles; the open may be closed meanwhile."""
