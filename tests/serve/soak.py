@@ -161,6 +161,7 @@ class _Trouble:
     def __init__(self, server: ServerProcess, seed: int, guids: list[bytes]) -> None:
         self._server, self._random, self._guids = server, random.Random(seed), guids
         self.faults = self.damaged = 0
+        self.complaints: list[str] = []
 
     def make(self, until: float) -> None:
         while time.monotonic() < until:
@@ -171,10 +172,14 @@ class _Trouble:
 
     def send_damaged(self, until: float) -> None:
         damager = Damager(self._server.place, self._random)
-        while time.monotonic() < until:
-            damager.send(damager.sent + 20)
-        self.damaged = damager.sent
-        damager.close()
+        try:
+            while time.monotonic() < until:
+                damager.send(damager.sent + 20)
+        except LOST as fault:
+            self.complaints.append(f"who does nothing wrong wasn't served: {fault!r}")
+        finally:
+            self.damaged = damager.sent
+            damager.close()
 
 
 def memory_of(process: int) -> float:
@@ -196,7 +201,9 @@ def soaked(program: str, folder: Path, clients: int, seconds: float, seed: int) 
         thread.join()
     memory = memory_of(server.process)
     server.close()
-    lost = [] if (server.status, server.complaints) == (0, "") else [f"the server ended: {server.status} {server.complaints}"]
+    lost = trouble.complaints
+    if (server.status, server.complaints) != (0, ""):
+        lost.append(f"the server ended: {server.status} {server.complaints}")
     for file in range(FILES):
         content = (folder / f"soaked-{file}").read_bytes() if (folder / f"soaked-{file}").exists() else b""
         for member in members:
