@@ -3,9 +3,9 @@
 Each fact of the record has one mark, in order, with its kind and its words. Those that `judge --explain` names are marked as bad,
 and what it says stands below. Each request has a mark too, above the facts that came later. Arrows lead from where a message or
 a request was sent to where it is taken, bars reach from a belief to the next one, and a client's line is solid where it is
-connected. No arrow crosses words: these stand to the right of a lane's line, sixteen pixels from it, and between the edges of their
-row. Requests of one client that wait at once have ways of their own beside its line. Bars have the numbers of their files, and above
-all lanes stands what their colors say.
+connected. No arrow crosses words: these stand to the right of a lane's line, sixteen pixels from it, and between the edges of
+their row. Requests of one client that wait at once have ways of their own beside its line. Bars have the numbers of their files,
+and above all lanes stands what their colors say.
 """
 from __future__ import annotations
 
@@ -78,8 +78,8 @@ def edge(row: int) -> int:
 
 
 def is_of(whole: str, shown: Optional[str], title: Optional[str]) -> bool:
-    """Whether a remark is shown whole, or as a beginning with all of it in the title, which ends with a word or with a whole byte of
-    digits."""
+    """Whether a remark is shown whole, or as a beginning that ends with a word or with a whole byte of digits, and whole in the
+    title."""
     if len(whole) <= ROOM:
         return (shown, title) == (whole, None)
     beginning = (shown or "").removesuffix("...")
@@ -176,8 +176,8 @@ class Picture:
         """The first place beside the line that no request of the client has which waits when this one is sent."""
         mine = self.asked[index]
         row = mine.facts + index
-        waiting = [earlier for earlier in range(index) if self.asked[earlier].client == mine.client
-                   and (self.asked[earlier].end is None or self.asked[earlier].end > row)]
+        waiting = [earlier for earlier, it in enumerate(self.asked[:index])
+                   if it.client == mine.client and (it.end is None or it.end > row)]
         taken = {self.way(earlier) for earlier in waiting}
         return next((way for way in range(WAYS) if way not in taken), WAYS - 1)
 

@@ -152,8 +152,9 @@ def test_neither_is_refused_as_the_one_of_which_it_has_more_lines(text: bytes, t
 def test_eight_clients(program: str) -> None:
     """They are within 1,600 pixels, and what three requests of one client wait for has ways of its own."""
     clients = range(1, 9)
-    lines = ["file 61", *(f"client {it}1111111-1111-1111-1111-111111111111" for it in clients), *(f"connect {it}" for it in clients),
-             *(f"open {it} 1 rw rw none" for it in clients), "serve 3", "take 3", *["read 3 1"] * 4, "serve 3", "read 3 1"]
+    lines = ["file 61", *(f"client {it}1111111-1111-1111-1111-111111111111" for it in clients),
+             *(f"connect {it}" for it in clients), *(f"open {it} 1 rw rw none" for it in clients),
+             "serve 3", "take 3", *["read 3 1"] * 4, "serve 3", "read 3 1"]
     picture = check_schedule("".join(f"{it}\n" for it in lines).encode(), program)
     assert picture and int(picture.root.attrib["width"]) <= 1600
     assert [picture.way(it) for it in range(8, 13)] == [0, 1, 2, 2, 0]

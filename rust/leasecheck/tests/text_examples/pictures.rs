@@ -159,10 +159,10 @@ fn lanes_stand_by_their_numbers_around_the_server() {
         let mut text = String::new(alloc);
         push_picture(&mut text, &picture)?;
         let drawn = text.as_str();
-        assert!(drawn.contains("<text class='heading' x='120' y='40'>client 1</text>"));
-        assert!(drawn.contains("<text class='heading' x='420' y='40'>client 2</text>"));
-        assert!(drawn.contains("<text class='heading' x='720' y='40'>server</text>"));
-        assert!(drawn.contains("<text class='heading' x='1020' y='40'>client 255</text>"));
+        assert!(drawn.contains("<text class='heading' x='120' y='46'>client 1</text>"));
+        assert!(drawn.contains("<text class='heading' x='420' y='46'>client 2</text>"));
+        assert!(drawn.contains("<text class='heading' x='720' y='46'>server</text>"));
+        assert!(drawn.contains("<text class='heading' x='1020' y='46'>client 255</text>"));
         Ok(())
     })
 }
