@@ -42,7 +42,7 @@ extern "C" {
 /* The version of this header. The first number, and the soname with it, changes where a program that was
    linked before could no longer run; the second one where something was added. */
 #define SMBLEASE_VERSION_MAJOR 0
-#define SMBLEASE_VERSION_MINOR 3
+#define SMBLEASE_VERSION_MINOR 4
 #define SMBLEASE_VERSION_PATCH 0
 
 struct smblease_version_numbers {

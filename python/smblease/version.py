@@ -3,6 +3,6 @@
 >>> VERSION.split(".")[:2] == [str(MAJOR), str(MINOR)]
 True
 """
-VERSION = "0.3.0"
+VERSION = "0.4.0"
 # A library of the same first number fits, where its second one is no lower.
 MAJOR, MINOR, _ = map(int, VERSION.split("."))

@@ -102,14 +102,14 @@ def test_a_library_that_does_not_run_here(tmp_path: Path) -> None:
     assert loaded(packages) == (0, str(tmp_path / PROVED / "libsmblease.so"))
 
 
-@pytest.mark.parametrize("major, minor", [(0, 3), (0, 4)])
+@pytest.mark.parametrize("major, minor", [(0, 4), (0, 5)])
 def test_a_version_that_fits(major: int, minor: int) -> None:
     check(major, minor)
 
 
-@pytest.mark.parametrize("major, minor", [(0, 2), (1, 3)])
+@pytest.mark.parametrize("major, minor", [(0, 3), (1, 4)])
 def test_a_version_that_does_not_fit(major: int, minor: int) -> None:
-    with pytest.raises(ImportError, match=f"^one has version {major}.{minor}.0; 0.3 is needed. To have it, run `make install`"):
+    with pytest.raises(ImportError, match=f"^one has version {major}.{minor}.0; 0.4 is needed. To have it, run `make install`"):
         check(major, minor)
 
 

@@ -15,11 +15,11 @@ pub struct LeaseVersion {
 /// a program was compiled for.
 #[unsafe(no_mangle)]
 pub extern "C" fn smblease_version() -> LeaseVersion
-    ensures { result ≡ record { major = 0; minor = 3; patch = 0 } }
+    ensures { result ≡ record { major = 0; minor = 4; patch = 0 } }
 {
     LeaseVersion {
         major: 0,
-        minor: 3,
+        minor: 4,
         patch: 0,
     }
 }

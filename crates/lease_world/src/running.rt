@@ -82,7 +82,7 @@ const EVENTS_LIMIT: usize = 10_000;
 /// never strayed (only their machines made the requests sent in their name) and let no break timer
 /// run out since they connected, none caches writes of a file that another caches, and a cached
 /// read gives the file as it stood when the message that the client took last was sent, with its
-/// unanswered writes. Of clients that never strayed, no write is reported as done that wasn't
+/// unanswered writes. Of clients that never strayed, no write is settled as done that wasn't
 /// accepted, and no buffered write is accepted after another client opened or changed the file. So
 /// `judge` calls it safe.
 ///

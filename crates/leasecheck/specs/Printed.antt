@@ -28,7 +28,7 @@ use Rattle.leasecheck.specs.declared.tasks.Telling.{Telling}
 
 -- the program's name and version, and the kit that it is proved and built with, a line each
 abbrev pub version_text : List ℕ
-version_text = codes "leasecheck 0.3.0" ++ 10 ∷ (codes "rattle-kit-13f logic dac8208d650f15bf" ++ 10 ∷ [])
+version_text = codes "leasecheck 0.4.0" ++ 10 ∷ (codes "rattle-kit-13f logic dac8208d650f15bf" ++ 10 ∷ [])
 
 -- The text tells the verdict on a record, and the status is that of the verdict.
 abbrev pub TellsVerdict : List ℕ → List ℕ → ℕ → Type 0

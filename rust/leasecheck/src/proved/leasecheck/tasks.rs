@@ -82,7 +82,7 @@ pub enum Asked {
 }
 
 /// The program's name and version, and the line of the kit that it is proved and built with.
-pub const VERSION: &str = "leasecheck 0.3.0\nrattle-kit-13f logic dac8208d650f15bf\n";
+pub const VERSION: &str = "leasecheck 0.4.0\nrattle-kit-13f logic dac8208d650f15bf\n";
 
 /// The file that an argument of `ack` or `show` names, which begins with `@`.
 pub fn file_named(argument: &str) -> Option<&str> {

@@ -14,7 +14,7 @@ pub struct LeaseVersion {
 /// Returns the version of the library that runs (profile). The header has that of the library that
 /// a program was compiled for.
 pub fn smblease_version() -> LeaseVersion {
-    LeaseVersion { major: 0, minor: 3, patch: 0 }
+    LeaseVersion { major: 0, minor: 4, patch: 0 }
 }
 
 /// The functions of this module for C.
