@@ -28,7 +28,7 @@ MANDIR ?= $(DATADIR)/man
 DOCDIR ?= $(DATADIR)/doc/smblease
 COMPLETIONDIR ?= $(DATADIR)/bash-completion/completions
 
-# The version stands in the header alone. The soname changes where a program that was linked before could no longer run.
+# The version stands in the header alone, and smblease.pc has the commit too. The soname changes where a program that was linked before could no longer run.
 number = $(shell sed -n 's/^\#define SMBLEASE_VERSION_$(1) //p' include/smblease.h)
 VERSION := $(call number,MAJOR).$(call number,MINOR).$(call number,PATCH)
 SONAME := libsmblease.so.$(call number,MAJOR)
@@ -66,7 +66,7 @@ install: all
 	ln -sf $(SONAME) "$(DESTDIR)$(LIBDIR)/libsmblease.so"
 	for header in $(HEADERS); do install -m 644 include/$$header "$(DESTDIR)$(INCLUDEDIR)/$$header" || exit 1; done
 	sed -e 's|@PREFIX@|$(PREFIX)|' -e 's|@LIBDIR@|$(subst $(PREFIX)/,$${prefix}/,$(LIBDIR))|' \
-	    -e 's|@INCLUDEDIR@|$(subst $(PREFIX)/,$${prefix}/,$(INCLUDEDIR))|' -e 's|@VERSION@|$(VERSION)|' include/smblease.pc.in \
+	    -e 's|@INCLUDEDIR@|$(subst $(PREFIX)/,$${prefix}/,$(INCLUDEDIR))|' -e 's|@VERSION@|$(VERSION)|' -e "s|@COMMIT@|$$(tools/commit)|" include/smblease.pc.in \
 	    > "$(DESTDIR)$(LIBDIR)/pkgconfig/smblease.pc"
 	for file in $(CMAKE); do sed -e 's|@VERSION@|$(VERSION)|' -e 's|@MAJOR@|$(call number,MAJOR)|' -e 's|@SHARED@|$(SHARED)|' -e 's|@SONAME@|$(SONAME)|' \
 	    -e "s|@HEADERS@|$$(realpath -m --relative-to="$(LIBDIR)" "$(INCLUDEDIR)")|" include/$$file.in \

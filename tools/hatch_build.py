@@ -1,11 +1,14 @@
-"""Puts the program and the library for C into the wheel, as tools/current finds them, and names the systems that run them."""
+"""Puts the program and the library for C into the wheel, as tools/current finds them, and names the systems that run them. Wheel
+and sdist have the commit that they are made from."""
 from __future__ import annotations
 
+import os
 import re
 import struct
 import subprocess
 import sys
 import sysconfig
+import tempfile
 from pathlib import Path
 from typing import Any, Sequence
 
@@ -28,18 +31,37 @@ def platform_of(files: Sequence[Path]) -> str:
     return f"manylinux_2_{max(needed)}_{machine}"
 
 
-class WheelHook(BuildHookInterface[Any]):
+def printed_by(tool: Path) -> str:
+    found = subprocess.run([tool], stdout=subprocess.PIPE, check=False, text=True)
+    if found.returncode:
+        # (it has said why)
+        sys.exit(1)
+    return found.stdout.strip()
+
+
+class Hook(BuildHookInterface[Any]):
+    _commit_file = ""
+
     def initialize(self, version: str, build_data: dict[str, Any]) -> None:
-        """`version` is what kind of wheel it is; an editable one leads to the repository, which has both."""
-        if self.target_name != "wheel" or version == "editable":
+        """`version` is what kind of wheel it is; an editable one leads to the repository, which has all of this."""
+        if version == "editable":
             return
-        top = Path(self.root)
-        found = subprocess.run([top / "tools" / "current"], stdout=subprocess.PIPE, check=False, text=True)
-        if found.returncode:
-            # (it has said why)
-            sys.exit(1)
-        library, program = (Path(found.stdout.strip()) / name for name in (LIBRARY, PROGRAM))
-        build_data["pure_python"] = False
-        build_data["tag"] = f"py3-none-{platform_of([library, program])}"
-        scripts = f"{self.build_config.builder.project_id}.data/scripts"
-        build_data["force_include"].update({str(library): f"smblease/{LIBRARY}", str(program): f"{scripts}/{PROGRAM}"})
+        tools = Path(self.root) / "tools"
+        files = {}
+        if self.target_name == "wheel":
+            library, program = (Path(printed_by(tools / "current")) / name for name in (LIBRARY, PROGRAM))
+            build_data["pure_python"] = False
+            build_data["tag"] = f"py3-none-{platform_of([library, program])}"
+            scripts = f"{self.build_config.builder.project_id}.data/scripts"
+            files = {str(library): f"smblease/{LIBRARY}", str(program): f"{scripts}/{PROGRAM}"}
+        commit = printed_by(tools / "commit")
+        if commit:
+            descriptor, self._commit_file = tempfile.mkstemp()
+            with open(descriptor, "w", encoding="utf-8") as file:
+                file.write(f"{commit}\n")
+            files[self._commit_file] = "smblease/COMMIT" if self.target_name == "wheel" else "COMMIT"
+        build_data["force_include"].update(files)
+
+    def finalize(self, version: str, build_data: dict[str, Any], artifact_path: str) -> None:
+        if self._commit_file:
+            os.unlink(self._commit_file)

@@ -9,7 +9,7 @@ import pytest
 
 from smblease.drive.called import name_of
 from tests.paths import EXAMPLE, TOP
-from tests.program.test_version import VERSION
+from tests.program.test_version import said_by
 
 COMMANDS = {"drive/run": "smblease-run", "drive/explore": "smblease-explore", "drive/compare": "smblease-compare",
             "drive/capture": "smblease-capture", "serve/run": "smblease-serve", "serve/torture": "smblease-torture"}
@@ -32,7 +32,7 @@ def test_help_needs_no_package(command: str) -> None:
 @pytest.mark.parametrize("command", COMMANDS)
 def test_version_is_that_of_the_header(command: str) -> None:
     told = ran(command, "--version")
-    assert (told.returncode, told.stdout, told.stderr) == (0, f"{command} {VERSION}\n", "")
+    assert (told.returncode, told.stdout, told.stderr) == (0, said_by(command), "")
 
 
 @pytest.mark.parametrize("command, words, said", [

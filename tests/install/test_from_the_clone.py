@@ -8,7 +8,7 @@ import pytest
 from tests import needs
 from tests.install.making import MARKS, environment, label, printed, pythons, ran
 from tests.paths import TOP
-from tests.program.test_version import VERSION
+from tests.program.test_version import said_by
 
 PYTHONS = pythons()
 # That of the tests, the oldest and the newest.
@@ -24,7 +24,7 @@ def test_plain_environment(tmp_path: Path, python: Path, words: list[str]) -> No
     programs = environment(python, tmp_path)
     done = ran([programs / "python", "-m", "pip", "install", "--quiet", *words, TOP], tmp_path)
     assert done.returncode == 0, done
-    assert printed([programs / "smblease-serve", "--version"], tmp_path) == f"smblease-serve {VERSION}\n"
+    assert printed([programs / "smblease-serve", "--version"], tmp_path) == said_by("smblease-serve")
     program = "import smblease.program; print(smblease.program.find_program())"
     found = TOP if words == ["--editable"] else programs
     assert printed([programs / "python", "-c", program], tmp_path) == f"{found / 'leasecheck'}\n"

@@ -10,7 +10,7 @@ import pytest
 from tests.c.building import Ended, made, run
 from tests.install.making import MARKS
 from tests.program.ran import ACKNOWLEDGMENT, BREAK
-from tests.program.test_version import VERSION
+from tests.program.test_version import said_by
 
 pytestmark = [*MARKS, pytest.mark.xdist_group("installed")]
 OWN = f"lib/python{sys.version_info.major}.{sys.version_info.minor}"
@@ -30,7 +30,7 @@ def test_all_is_there_and_goes_again(tmp_path: Path, prefix: str, packages: str)
     assert done.status == 0, done
     top = tmp_path / prefix
     variables = {"PYTHONPATH": str(top / packages)}
-    assert run(top / "bin/smblease-serve", "--version", variables=variables) == Ended(0, f"smblease-serve {VERSION}\n")
+    assert run(top / "bin/smblease-serve", "--version", variables=variables) == Ended(0, said_by("smblease-serve"))
     program = "from smblease.program import find_program; print(find_program())"
     found = run(sys.executable, "-c", program, variables=variables).output.rstrip()
     assert found == str(top / "bin/leasecheck")

@@ -11,7 +11,7 @@ from tests import needs
 from tests.install.making import MARKS, environment, label, printed, pythons, ran
 from tests.paths import EXAMPLE, TOP
 from tests.program.ran import ACKNOWLEDGMENT, BREAK, run
-from tests.program.test_version import VERSION
+from tests.program.test_version import VERSION, said_by
 
 pytestmark = [*MARKS, pytest.mark.long, pytest.mark.xdist_group("installed")]
 COMMANDS = ("run", "explore", "compare", "capture", "serve", "torture")
@@ -67,7 +67,7 @@ def test_command(programs: Path, tmp_path: Path, command: str) -> None:
     """Help and version need nothing but the package, and know the name that was called."""
     name = f"smblease-{command}"
     assert printed([programs / name, "--help"], tmp_path).startswith(f"usage: {name} [-h] [--version] ")
-    assert printed([programs / name, "--version"], tmp_path) == f"{name} {VERSION}\n"
+    assert printed([programs / name, "--version"], tmp_path) == said_by(name)
 
 
 @pytest.mark.parametrize("command, words", [("run", ["schedule"]), ("compare", ["schedule"]),

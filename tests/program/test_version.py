@@ -7,18 +7,47 @@ import sys
 
 import pytest
 
+from tests import needs
 from tests.paths import PACKAGES, TOP
 from tests.program.ran import Ended, run
 
 HEADER = (TOP / "include" / "smblease.h").read_text(encoding="utf-8")
 VERSION = ".".join(re.findall(r"^#define SMBLEASE_VERSION_[A-Z]+ (\d+)$", HEADER, re.M))
+PROGRAM_SAYS = f"leasecheck {VERSION}\n{(TOP / 'kit.txt').read_text(encoding='utf-8')}"
+
+
+def commit_line() -> str:
+    """What `--version` says last, where it is known of which commit this tree is."""
+    commit = subprocess.run([TOP / "tools" / "commit"], stdout=subprocess.PIPE, text=True, check=True).stdout
+    return commit and f"commit {commit}"
+
+
+def said_by(command: str) -> str:
+    """What a command of the package says to `--version`."""
+    return f"{command} {VERSION}\n{commit_line()}"
 
 
 @pytest.mark.parametrize("word", ["--version", "-V"])
 def test_version(word: str) -> None:
-    assert run([word]) == Ended(0, f"leasecheck {VERSION}\n{(TOP / 'kit.txt').read_text(encoding='utf-8')}".encode())
+    assert run([word]) == Ended(0, PROGRAM_SAYS.encode())
 
 
+@needs.DIST
+@pytest.mark.parametrize("word", ["--version", "-V"])
+def test_a_clone_says_its_commit(word: str) -> None:
+    assert commit_line().count("\n") == 1 and re.match(r"commit [0-9a-f]{40}(-changed)?$", commit_line())
+    env = {"PATH": "/usr/bin:/bin"}
+    assert run([word], env=env, program=str(TOP / "leasecheck")) == Ended(0, (PROGRAM_SAYS + commit_line()).encode())
+
+
+@needs.DIST
+def test_a_version_that_cannot_be_written() -> None:
+    with open("/dev/full", "wb") as full:
+        done = subprocess.run([TOP / "leasecheck", "--version"], stdout=full, stderr=subprocess.PIPE, check=False)
+    assert (done.returncode, done.stderr) == (1, b"fault output\n")
+
+
+@needs.DIST
 def test_version_of_the_package() -> None:
     """The library that the package finds has it too."""
     program = """

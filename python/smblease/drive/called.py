@@ -6,8 +6,10 @@ import argparse
 import importlib.util
 import os
 import sys
+from typing import Any
 
 from smblease._library import TOP
+from smblease.commit import commit
 from smblease.drive.faults import DriveFault
 from smblease.version import VERSION
 
@@ -29,10 +31,21 @@ def name_of(command: str) -> str:
     return command if is_of_a_clone() else INSTALLED[command]
 
 
+class _Version(argparse.Action):
+    """Prints the version, and the commit where it is known, which only this asks for."""
+
+    def __call__(self, parser: argparse.ArgumentParser, *_: Any) -> None:
+        found = commit()
+        lines = [f"{parser.prog} {VERSION}", *([f"commit {found}"] if found else [])]
+        print("\n".join(lines))
+        parser.exit()
+
+
 def parser_of(command: str, about: str, epilog: str) -> argparse.ArgumentParser:
     made = argparse.ArgumentParser(prog=name_of(command), description=about, epilog=epilog,
                                    formatter_class=argparse.RawDescriptionHelpFormatter)
-    made.add_argument("--version", action="version", version=f"%(prog)s {VERSION}")
+    made.add_argument("--version", action=_Version, nargs=0, default=argparse.SUPPRESS,
+                      help="show program's version number and exit")
     return made
 
 
