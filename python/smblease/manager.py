@@ -14,7 +14,7 @@ from smblease._arguments import LONG, key_field, number
 from smblease._handles import Outcome
 from smblease._library import library
 from smblease.contexts import CreateAsk, ask_struct
-from smblease.manager_decisions import Decisions, decision_of
+from smblease.manager_decisions import Decision, Decisions, decision_of
 from smblease.manager_questions import ManagerQuestions, key_struct
 from smblease.messages import Acknowledgment
 from smblease.values import Access, LeaseState, Order, Rise, Rules, Share
@@ -41,23 +41,27 @@ class Manager(ManagerQuestions):
         super().__init__(structs.Manager(), library.smblease_manager_free, "manager")
         if not isinstance(rules, Rules):
             raise TypeError(f"rules are needed, as Rules.of('by-key,whole'), and not {rules!r}")
-        made = library.smblease_manager_new(ctypes.byref(self._handle), Order(rules.order).value, Rise(rules.rise).value,
+        self._room = structs.ManagerDecision()
+        self._reference, self._room_reference = ctypes.byref(self._handle), ctypes.byref(self._room)
+        made = library.smblease_manager_new(self._reference, Order(rules.order).value, Rise(rules.rise).value,
                                             number(files, LONG, "files"))
         if made != Outcome.DONE:
             raise MemoryError("there is no memory for a manager")
 
     def _decided(self, call: Callable[..., int], *arguments: object) -> Decisions:
-        handle = ctypes.byref(self._handle)
+        handle = self._reference
         with self._lock:
             outcome = call(handle, *arguments)
             if outcome:
                 self._check(outcome)
-            found = [structs.ManagerDecision() for _ in range(library.smblease_manager_decision_count(handle))]
-            for index, one in enumerate(found):
-                outcome = library.smblease_manager_decision_at(handle, index, ctypes.byref(one))
-                if outcome:
-                    self._check(outcome)
-        return tuple(map(decision_of, found))
+            return tuple(map(self._decision_at, range(library.smblease_manager_decision_count(handle))))
+
+    def _decision_at(self, index: int) -> Decision:
+        """A decision of the last call, which is read while the lock is held."""
+        outcome = library.smblease_manager_decision_at(self._reference, index, self._room_reference)
+        if outcome:
+            self._check(outcome)
+        return decision_of(self._room)
 
     def _received(self, call: Callable[..., int], client: int, tag: int, file_id: int, *more: int) -> Decisions:
         names = number(client, LONG, "client"), number(tag, LONG, "tag"), number(file_id, LONG, "file_id")

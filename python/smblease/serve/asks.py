@@ -6,7 +6,7 @@ from __future__ import annotations
 
 from collections.abc import Callable, Generator
 from dataclasses import dataclass
-from typing import Any, TypeVar, Union
+from typing import Any, NamedTuple, Optional, TypeVar, Union
 
 from smblease import Access, Acknowledgment, CreateAsk, Fault, Manager, Response, Share
 from smblease.manager_decisions import Decisions, Opened
@@ -17,20 +17,19 @@ from smblease.serve.packets import Answer
 Found = TypeVar("Found")
 
 
-@dataclass(frozen=True)
-class Asked:
+class Asked(NamedTuple):
     """`call` gives it to a manager under a tag; `effect` is done where it goes on, at that place in the order of decisions. It
     may wait on the file, where it is about one."""
 
     client: ManagerClient
-    node: Node | None
+    node: Optional[Node]
     call: Callable[[Manager, int], Decisions]
     effect: Callable[[], object] = lambda: None
     is_new_open: bool = False
     # it changes the file as soon as it goes on
     empties: bool = False
     # the FileId of what it closes, which nobody takes back
-    closes: int | None = None
+    closes: Optional[int] = None
 
     @property
     def file(self) -> int:

@@ -1,6 +1,7 @@
 """Requests of a compound, which are done one after the other, and their answers."""
 from __future__ import annotations
 
+from collections import deque
 from dataclasses import dataclass, replace
 from typing import TYPE_CHECKING
 
@@ -34,25 +35,28 @@ class Pending:
 class Chain:
     """A request and those that are related to it, which are done one after the other."""
 
-    def __init__(self, connection: Connection, requests: list[RequestMessage]) -> None:
+    def __init__(self, connection: Connection, first: RequestMessage) -> None:
         self._connection = connection
-        self._requests = requests
+        self._requests = deque([first])
         self._responses: list[Response] = []
         # the bytes of answers that wait for those after them
         self.held = 0
-        self._session, self._tree = requests[0].session, requests[0].tree
+        self._session, self._tree = first.session, first.tree
         self._previous: int | None = None
         # The first request of a frame is related to none (3.3.5.2.7.2).
-        self._failed: int | None = Status.INVALID_PARAMETER if requests[0].is_related else None
+        self._failed: int | None = Status.INVALID_PARAMETER if first.is_related else None
         self._is_waiting = self._is_going = False
+
+    def add(self, related: RequestMessage) -> None:
+        self._requests.append(related)
 
     def go_on(self) -> None:
         """Begins each request once the one before it is answered, until it is others' turn; sends the answers after the last."""
         self._is_going = True
         while self._requests and not self._is_waiting and self._connection.is_open:
             self._is_waiting = True
-            self._connection.begin(Pending(self._asked(self._requests.pop(0)), self), self._failed)
-            if not self._is_waiting and not self._connection.has_turn:
+            self._connection.begin(Pending(self._asked(self._requests.popleft()), self), self._failed)
+            if self._requests and not self._is_waiting and not self._connection.has_turn:
                 break
         self._is_going = False
         if self._requests and not self._is_waiting:

@@ -164,16 +164,16 @@ class Connection(asyncio.Protocol):  # pylint: disable=too-many-instance-attribu
         if frame[:4] == OLD_PROTOCOL:
             self._old_negotiate(frame)
         elif frame:
-            chains: list[list[RequestMessage]] = []
+            chains: list[Chain] = []
             for message in split_compound(frame, MOST_IN_FRAME if self.is_negotiated else 1):
                 self._credit(message)
                 if message.command is Command.CANCEL:
                     self._cancel(message)
                 elif message.is_related and chains:
-                    chains[-1].append(message)
+                    chains[-1].add(message)
                 else:
-                    chains.append([message])
-            self._chains.extend(Chain(self, chain) for chain in chains)
+                    chains.append(Chain(self, message))
+            self._chains.extend(chains)
             if self._chains:
                 self._chains.popleft().go_on()
 

@@ -1,4 +1,7 @@
-"""Bytes of a file, where they stand on disk."""
+"""Bytes of a file, where they stand on disk.
+
+A write that fails is taken back by the bytes that were there: reserved room is no promise where the disk copies on write, nor
+against EIO."""
 from __future__ import annotations
 
 import errno

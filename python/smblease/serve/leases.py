@@ -70,8 +70,8 @@ class Leases(Handlers):
 
     def break_own_level_ii(self, opened: Open) -> None:
         """Who changes or locks a file loses level II by that, which no key keeps (MS-FSA 2.1.4.12)."""
-        lease = opened.lease
-        if opened.level != LEVEL_II or lease is None or opened.client is None:
+        lease = opened.lease if opened.level == LEVEL_II else None
+        if lease is None or opened.client is None:
             return
         lease.become(LeaseState.NONE)
         self._server.record.believes(opened.client, lease, LeaseState.NONE)

@@ -109,7 +109,7 @@ def locks_of_others(opened: Open) -> list[Lock]:
 def is_kept_from(opened: Open, offset: int, length: int, is_write: bool) -> bool:
     """Whether a lock keeps an open from these bytes (MS-FSA 2.1.4.10): for a write its own shared one does too. None keeps
     anybody from no bytes."""
-    if not length:
+    if not length or not opened.node.opens.with_locks:
         return False
     shared = [it for it in opened.locks if is_write and not it.is_exclusive]
     others = [it for it in locks_of_others(opened) if is_write or it.is_exclusive]

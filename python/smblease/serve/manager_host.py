@@ -1,4 +1,6 @@
-"""The proved manager of leases, and what is made of its decisions: each is carried out before the next one, in the order told."""
+"""The proved manager of leases, and what is made of its decisions: each is carried out before the next one, in the order told.
+
+One queue of decisions and one thread: so what is to be done on disk is done at the place of its `GoesOn`."""
 from __future__ import annotations
 
 import asyncio
@@ -6,7 +8,7 @@ import itertools
 from collections import deque
 from collections.abc import Callable
 from dataclasses import dataclass, field, replace
-from typing import TYPE_CHECKING, Union
+from typing import TYPE_CHECKING, Any, Union
 
 from smblease import LeaseState, MachineLost, Manager, Rules, Status
 from smblease.drive.headers import Unreadable
@@ -59,7 +61,7 @@ class ManagerHost:
 
     def start(self, task: Task) -> None:
         """Begins a task, and goes on until nothing is left that was decided."""
-        self._go(task, lambda: next(task.handling))
+        self._send(task, None)
         self.drain()
 
     def call(self, call: Callable[[Manager], Decisions | None]) -> Decisions:
@@ -68,9 +70,9 @@ class ManagerHost:
         self._decisions.extend((it, None) for it in decisions)
         return decisions
 
-    def _called(self, call: Callable[[Manager], Decisions | None]) -> Decisions:
+    def _called(self, call: Callable[..., Decisions | None], *more: object) -> Decisions:
         try:
-            return call(self.manager) or ()
+            return call(self.manager, *more) or ()
         except (MachineLost, *EXHAUSTED):
             self._lost()
             return ()
@@ -121,7 +123,9 @@ class ManagerHost:
     # Decisions
 
     def _carry_out(self, decision: Decision | Pause, task: Task | None) -> None:
-        if isinstance(decision, Pause):
+        if isinstance(decision, (Opened, GoesOn, Closed, Refused, Withdrawn)):
+            self._decided(decision)
+        elif isinstance(decision, Pause):
             paused = self._resumed(decision)
             if paused:
                 self._send(paused, None)
@@ -129,10 +133,8 @@ class ManagerHost:
             self._server.broken(decision)
         elif isinstance(decision, Ended):
             self._server.ended(decision.file_id)
-        elif isinstance(decision, (Acknowledged, NotAcknowledged)):
-            self._acknowledged(decision, task)
         elif not isinstance(decision, Waits):
-            self._decided(decision)
+            self._acknowledged(decision, task)
 
     def _acknowledged(self, decision: Acknowledged | NotAcknowledged, task: Task | None) -> None:
         if task is None or task.is_over:
@@ -184,9 +186,9 @@ class ManagerHost:
 
     # Tasks
 
-    def _go(self, task: Task, step: Callable[[], Yielded]) -> None:
+    def _go(self, task: Task, step: Callable[[Any], Yielded], given: object) -> None:
         try:
-            asked = step()
+            asked = step(given)
         except StopIteration as stop:
             self._end(task, stop.value)
         except StatusError as refused:
@@ -204,14 +206,17 @@ class ManagerHost:
 
     def _ask(self, task: Task, asked: Yielded) -> None:
         """What comes of a client that isn't connected is dropped, and nothing is decided."""
-        if isinstance(asked, Meanwhile):
+        if isinstance(asked, Asked):
+            is_decided = self._put(task, asked)
+        elif isinstance(asked, Acknowledging):
+            is_decided = self._acknowledge(task, asked)
+        elif isinstance(asked, Meanwhile):
             self._wait_for(task, asked)
             return
-        if isinstance(asked, Pause):
+        else:
             task.asked, task.pause = None, asked
             self._paused[asked] = task
             return
-        is_decided = self._acknowledge(task, asked) if isinstance(asked, Acknowledging) else self._put(task, asked)
         if not is_decided and not task.is_over:
             if task.asked:
                 self._taken(task.asked.client.number, task.tag)
@@ -221,17 +226,20 @@ class ManagerHost:
         tag = next(self._tags)
         task.asked, task.tag = asked, tag
         self._waiting.setdefault(asked.client.number, {})[tag] = task
-        decisions = [_told(asked, it) for it in self._called(lambda manager: asked.call(manager, tag))]
-        self._decisions.extend((it, None) for it in decisions)
-        task.decided += (it for it in decisions if isinstance(it, (Breaks, Waits)))
+        decisions = self._called(asked.call, tag)
+        for it in decisions:
+            told = _told(it) if asked.empties else it
+            self._decisions.append((told, None))
+            if isinstance(told, (Breaks, Waits)):
+                task.decided.append(told)
         return bool(decisions)
 
     def _acknowledge(self, task: Task, asked: Acknowledging) -> bool:
         """It is answered first."""
         client, message = asked.client.number, asked.message
         task.asked = None
-        decisions = self._called(lambda manager: manager.acknowledge(client, message) if message
-                                 else manager.acknowledge_malformed(client))
+        decisions = self._called(Manager.acknowledge, client, message) if message \
+            else self._called(Manager.acknowledge_malformed, client)
         self._decisions.extend((it, None if place else task) for place, it in enumerate(decisions))
         task.decided += (it for it in decisions if isinstance(it, (Acknowledged, Breaks)))
         return bool(decisions)
@@ -258,17 +266,17 @@ class ManagerHost:
         return task
 
     def _taken(self, client: int, tag: int) -> Task | None:
-        tasks = self._waiting.get(client, {})
-        task = tasks.pop(tag, None)
+        tasks = self._waiting.get(client)
+        task = tasks.pop(tag, None) if tasks else None
         if not tasks:
             self._waiting.pop(client, None)
         return task
 
     def _send(self, task: Task, found: object) -> None:
-        self._go(task, lambda: task.handling.send(found))
+        self._go(task, task.handling.send, found)
 
     def _refuse(self, task: Task, fault: StatusError) -> None:
-        self._go(task, lambda: task.handling.throw(fault))
+        self._go(task, task.handling.throw, fault)
 
     @staticmethod
     def _end(task: Task, answer: Answer | None) -> None:
@@ -276,9 +284,9 @@ class ManagerHost:
         task.ended(answer or Answer(Status.UNSUCCESSFUL))
 
 
-def _told(asked: Asked, decision: Decision) -> Decision:
+def _told(decision: Decision) -> Decision:
     """What overwrites would break the rest of a lease as soon as W is given up: its client is asked for all of it at once."""
-    if not asked.empties or not isinstance(decision, Breaks):
+    if not isinstance(decision, Breaks):
         return decision
     notification = decision.notification
     gives_up_writes = LeaseState.W in notification.current & ~notification.new

@@ -5,11 +5,13 @@ import hashlib
 import hmac
 import struct
 from dataclasses import dataclass, field
+from typing import Any
 
-from smblease.drive.headers import ASYNC, COMMANDS, FROM_SERVER, HEADER, RELATED, Command, Field, Message, Unreadable
+from smblease.drive.headers import ASYNC, COMMANDS, FROM_SERVER, HEADER, RELATED, Command, Message, Unreadable
 from smblease.drive.packets import PROTOCOL
 
 HEAD = struct.Struct("<4sHHLHHLLQQQ16s")
+LENGTH = struct.Struct(">L")
 # Of a request's header its beginning and where the next one is; and what follows its StructureSize, but for the signature.
 START = struct.Struct("<4sH14xL")
 FIXED = struct.Struct("<HLHHLLQLLQ")
@@ -21,63 +23,68 @@ LONGEST_FRAME = LONGEST_TRANSFER + 131072
 LONGEST_WITHOUT_SESSION = 65536
 MOST_IN_FRAME = 1024
 # The StructureSize of requests.
-SIZES = {Command.NEGOTIATE: 36, Command.SESSION_SETUP: 25, Command.LOGOFF: 4, Command.TREE_CONNECT: 9, Command.TREE_DISCONNECT: 4,
-         Command.CREATE: 57, Command.CLOSE: 24, Command.FLUSH: 24, Command.READ: 49, Command.WRITE: 49, Command.LOCK: 48,
-         Command.IOCTL: 57, Command.ECHO: 4, Command.QUERY_DIRECTORY: 33, Command.CHANGE_NOTIFY: 32, Command.QUERY_INFO: 41,
-         Command.SET_INFO: 33}
-# Where a request says how many bytes it sends, and where how many it may be answered: what is together is added.
-PAYLOADS: dict[Command | None, list[tuple[int, ...]]] = {
-    Command.READ: [(4,)], Command.WRITE: [(4,)], Command.QUERY_DIRECTORY: [(28,)], Command.IOCTL: [(28, 40), (32, 44)],
-    Command.QUERY_INFO: [(4,), (12,)], Command.SET_INFO: [(4,)], Command.CHANGE_NOTIFY: [(4,)]}
+SIZES: dict[Command | None, int] = {
+    Command.NEGOTIATE: 36, Command.SESSION_SETUP: 25, Command.LOGOFF: 4, Command.TREE_CONNECT: 9, Command.TREE_DISCONNECT: 4,
+    Command.CREATE: 57, Command.CLOSE: 24, Command.FLUSH: 24, Command.READ: 49, Command.WRITE: 49, Command.LOCK: 48,
+    Command.IOCTL: 57, Command.ECHO: 4, Command.QUERY_DIRECTORY: 33, Command.CHANGE_NOTIFY: 32, Command.QUERY_INFO: 41,
+    Command.SET_INFO: 33}
+# Where a request says how many bytes it sends, and where how many it may be answered, from the header's first byte: of two places
+# the numbers are added.
+PAYLOADS: dict[Command | None, list[tuple[int, int | None]]] = {
+    Command.READ: [(68, None)], Command.WRITE: [(68, None)], Command.QUERY_DIRECTORY: [(92, None)],
+    Command.IOCTL: [(92, 104), (96, 108)], Command.QUERY_INFO: [(68, None), (76, None)], Command.SET_INFO: [(68, None)],
+    Command.CHANGE_NOTIFY: [(68, None)]}
 CREDIT_BYTES = 65536
 
 
-@dataclass(frozen=True)
 class RequestMessage(Message):
     """A request; its fields are read at their places from the header's first byte."""
 
-    charge, credits_asked = Field(6, 2), Field(14, 2)
+    charge: int
+    credits_asked: int
+    is_related: bool
+    is_signed: bool
 
-    def __post_init__(self) -> None:
+    def __init__(self, data: bytes) -> None:  # pylint: disable=super-init-not-called  # (which is slower)
         """What every request is asked for is read once."""
-        super().__post_init__()
-        charge, _, code, credits_asked, flags, _, identifier, _, tree, session = FIXED.unpack_from(self.data, 6)
-        self.__dict__.update(charge=charge, command=COMMANDS.get(code), credits_asked=credits_asked, flags=flags,
-                             identifier=identifier, tree=tree, session=session)
-
-    @property
-    def is_related(self) -> bool:
-        return bool(self.flags & RELATED)
-
-    @property
-    def is_signed(self) -> bool:
-        return bool(self.flags & SIGNED)
+        if len(data) < HEADER:
+            raise Unreadable
+        charge, _, code, credits_asked, flags, _, identifier, _, tree, session = FIXED.unpack_from(data, 6)
+        self.__dict__.update(data=data, charge=charge, command=COMMANDS.get(code), credits_asked=credits_asked, flags=flags,
+                             identifier=identifier, tree=tree, session=session, is_related=bool(flags & RELATED),
+                             is_signed=bool(flags & SIGNED))
 
     @property
     def async_id(self) -> int | None:
         return self.number(32, 8) if self.flags & ASYNC else None
 
+    def fields(self, layout: struct.Struct) -> tuple[Any, ...]:
+        """Those of its body, as far as the layout goes."""
+        if HEADER + layout.size > len(self.data):
+            raise Unreadable
+        return layout.unpack_from(self.data, HEADER)
+
     def buffer(self, offset_place: int, length: int) -> bytes:
         """Bytes that lie where a field of two bytes says."""
         return self.part(self.number(offset_place, 2), length) if length else b""
 
-    def view(self, offset_place: int, length: int) -> memoryview:
-        """The same, where the message has them."""
-        place = self.number(offset_place, 2)
+    def view(self, place: int, length: int) -> memoryview:
+        """Bytes that lie at a place, where the message has them."""
         if length and place + length > len(self.data):
             raise Unreadable
         return memoryview(self.data)[place:place + length]
 
     def check_size(self) -> None:
         """The StructureSize has to be that of the command. The messages of OPLOCK_BREAK have several."""
-        if self.command in SIZES and self.number(HEADER, 2) != SIZES[self.command]:
+        size = SIZES.get(self.command)
+        if size is not None and self.number(HEADER, 2) != size:
             raise Unreadable
 
     def check_charge(self) -> None:
         """What it costs has to be enough for what it transfers (3.3.5.2.5). A charge of 0 is one of 1."""
-        most = CREDIT_BYTES * max(1, self.charge)
-        for sums in PAYLOADS.get(self.command, ()):
-            if sum(self.number(HEADER + it, 4) for it in sums) > most:
+        most = CREDIT_BYTES * (self.charge or 1)
+        for place, other in PAYLOADS.get(self.command, ()):
+            if self.number(place, 4) + (self.number(other, 4) if other else 0) > most:
                 raise Unreadable
 
 
@@ -118,27 +125,40 @@ class Response:
         return HEADER + len(self.body) + len(self.data)
 
     def header(self, following: int) -> bytes:
-        flags = self.flags | (ASYNC if self.async_id is not None else 0) | (SIGNED if self.key else 0)
-        place = self.async_id if self.async_id is not None else self.tree << 32
+        place, flags = self.tree << 32, self.flags
+        if self.async_id is not None:
+            place, flags = self.async_id, flags | ASYNC
+        if self.key:
+            flags |= SIGNED
         return HEAD.pack(PROTOCOL, HEADER, self.charge, self.status, self.command, self.credits, flags, following,
                          self.message, place, self.session, bytes(16))
 
 
+def signature(data: bytes, key: bytes) -> bytes:
+    """That of a message (3.1.4.1): of a session of dialect 2.1 the first half of an HMAC of SHA-256."""
+    made = hmac.new(key, data[:48], hashlib.sha256)
+    made.update(bytes(16))
+    made.update(memoryview(data)[64:])
+    return made.digest()[:16]
+
+
 def signed(data: bytes, key: bytes) -> bytes:
-    """A message with its signature (3.1.4.1): of a session of dialect 2.1 the first half of an HMAC of SHA-256."""
-    clear = data[:48] + bytes(16) + data[64:]
-    return data[:48] + hmac.new(key, clear, hashlib.sha256).digest()[:16] + data[64:]
+    """A message with its signature."""
+    return b"".join((data[:48], signature(data, key), memoryview(data)[64:]))
 
 
 def framed(responses: list[Response]) -> bytes:
     """A frame of one message, or of a compound whose messages begin at multiples of eight."""
+    if len(responses) == 1 and not responses[0].key:
+        response = responses[0]
+        return b"".join((LENGTH.pack(response.length), response.header(0), response.body, response.data))
     parts = [b""]
     for place, response in enumerate(responses, 1):
         padding = -response.length % 8 if place < len(responses) else 0
         following = response.length + padding if place < len(responses) else 0
         message = [response.header(following), response.body, response.data, bytes(padding)]
         parts += [signed(b"".join(message), response.key)] if response.key else message
-    parts[0] = struct.pack(">L", sum(map(len, parts)))
+    parts[0] = LENGTH.pack(sum(map(len, parts)))
     return b"".join(parts)
 
 
@@ -200,8 +220,13 @@ class Credits:
 
     def take(self, number: int, charge: int) -> bool:
         """Takes the numbers of a request; they have to be there."""
+        if number < self._low or number + charge > self._high:
+            return False
+        if number == self._low and not self._used:
+            self._low += charge
+            return True
         wanted = range(number, number + charge)
-        if number < self._low or number + charge > self._high or any(it in self._used for it in wanted):
+        if not self._used.isdisjoint(wanted):
             return False
         self._used.update(wanted)
         while self._low in self._used:
@@ -211,8 +236,9 @@ class Credits:
 
     def grant(self, request: int) -> int:
         """How many more there are; at least one where none is left."""
-        left = self._high - self._low - len(self._used)
-        given = min(max(request, 1), max(0, self.MOST - (self._high - self._low)))
-        given = max(given, 0 if left else 1)
+        known = self._high - self._low
+        given = min(request or 1, self.MOST - known) if known < self.MOST else 0
+        if not given and known == len(self._used):
+            given = 1
         self._high += given
         return given

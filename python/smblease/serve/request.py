@@ -5,7 +5,7 @@ from dataclasses import dataclass
 from typing import TYPE_CHECKING
 
 from smblease import Status
-from smblease.drive.headers import HEADER, PREVIOUS, Command, Unreadable
+from smblease.drive.headers import FILE_IDS, HEADER, PREVIOUS, Command, Unreadable
 from smblease.serve.faults_on_demand import Action
 from smblease.serve.opens import ManagerClient, Open
 from smblease.serve.packets import RequestMessage
@@ -31,6 +31,7 @@ class Request:
     previous: int | None = None
     # what somebody wanted to go wrong with it, or with its answer
     fault: Action | None = None
+    _file_id: int | None = None
 
     @property
     def session(self) -> Session:
@@ -45,7 +46,10 @@ class Request:
 
     @property
     def tree(self) -> Tree:
-        found = self.session.trees.get(self.tree_id)
+        return self._tree_of(self.session)
+
+    def _tree_of(self, session: Session) -> Tree:
+        found = session.trees.get(self.tree_id)
         if found is None:
             raise StatusError(Status.NETWORK_NAME_DELETED)
         return found
@@ -63,6 +67,11 @@ class Request:
 
     def file_id(self) -> int:
         """The persistent half of the request's FileId; the volatile one is the same in all that the server gives."""
+        if self._file_id is None:
+            self._file_id = self._read_file_id()
+        return self._file_id
+
+    def _read_file_id(self) -> int:
         is_oplock = self.message.command is Command.OPLOCK_BREAK
         wire = (self.message.part(HEADER + 8, 16) if is_oplock else self.message.file_id) or bytes(16)
         if wire == PREVIOUS and self.message.is_related:
@@ -76,8 +85,10 @@ class Request:
     @property
     def named(self) -> int | None:
         """The FileId that those which are related to it mean, if it names one."""
+        if self.message.command not in FILE_IDS:
+            return None
         try:
-            return self.file_id() if self.message.file_id else None
+            return self.file_id()
         except (StatusError, Unreadable):
             return None
 
@@ -86,7 +97,9 @@ class Request:
         found = self.server.opens.get(self.file_id())
         if found is None or found.connection is not self.connection and found.client is not self.connection.client:
             return None
-        if found.connection is not self.connection or found.session is not self.session or found.tree is not self.tree:
+        session = self.session
+        tree = self._tree_of(session)
+        if found.connection is not self.connection or found.session is not session or found.tree is not tree:
             raise StatusError(Status.FILE_CLOSED)
         return found
 

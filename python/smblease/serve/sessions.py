@@ -1,4 +1,7 @@
-"""NEGOTIATE, SESSION_SETUP, LOGOFF, TREE_CONNECT, TREE_DISCONNECT and ECHO (3.3.5.3 to 3.3.5.9, 3.3.5.17)."""
+"""NEGOTIATE, SESSION_SETUP, LOGOFF, TREE_CONNECT, TREE_DISCONNECT and ECHO (3.3.5.3 to 3.3.5.9, 3.3.5.17).
+
+A session may become another user's: 3.3.5.5.2 keeps the key of a session that authenticates again and asks for no user, and
+Windows and Samba let anybody in. What was open stays the former user's."""
 from __future__ import annotations
 
 import hmac
@@ -10,7 +13,7 @@ from smblease import Status
 from smblease.drive.headers import HEADER, Unreadable, tree_path
 from smblease.serve.asks import Handling
 from smblease.serve.ntlm import Authentication
-from smblease.serve.packets import LONGEST_TRANSFER, Answer, RequestMessage, signed
+from smblease.serve.packets import LONGEST_TRANSFER, Answer, RequestMessage, signature
 from smblease.serve.request import Handlers, Request
 from smblease.serve.spnego import offered
 from smblease.serve.status_error import StatusError
@@ -55,7 +58,8 @@ class Session:
             raise StatusError(Status.ACCESS_DENIED)
 
     def has_signed(self, message: RequestMessage) -> bool:
-        return bool(message.is_signed and self.key and hmac.compare_digest(signed(message.data, self.key), message.data))
+        return bool(message.is_signed and self.key
+                    and hmac.compare_digest(signature(message.data, self.key), message.data[48:64]))
 
 
 def negotiated(server: Server, dialect: int) -> Answer:

@@ -20,6 +20,9 @@ from smblease.serve.packets import LONGEST_TRANSFER, Answer
 from smblease.serve.request import Handlers, Request
 from smblease.serve.status_error import StatusError
 
+# Of a READ its length, offset and least length, of a WRITE the place of its bytes, length, offset and flags.
+READ, WRITE = struct.Struct("<4xLQ16xL"), struct.Struct("<2xHLQ28xL")
+READ_DONE, WRITE_DONE = struct.Struct("<HBBLLL"), struct.Struct("<HHLLHH")
 WITH_ATTRIBUTES = 1
 WRITE_THROUGH = 1
 
@@ -51,8 +54,7 @@ class Transfers(Handlers):
         return Answer(Status.SUCCESS, struct.pack("<HH", 4, 0))
 
     def read(self, request: Request) -> Handling:
-        message = request.message
-        length, offset, least = message.number(HEADER + 4, 4), message.number(HEADER + 8, 8), message.number(HEADER + 32, 4)
+        length, offset, least = request.message.fields(READ)
         if length > LONGEST_TRANSFER:
             raise StatusError(Status.INVALID_PARAMETER)
         opened = yield from self._open(request, Manager.read)
@@ -62,12 +64,11 @@ class Transfers(Handlers):
         if length and len(data) < max(1, least):
             raise StatusError(Status.END_OF_FILE)
         opened.position = offset + len(data)
-        return Answer(Status.SUCCESS, struct.pack("<HBBLLL", 17, HEADER + 16, 0, len(data), 0, 0), data or b"\0")
+        return Answer(Status.SUCCESS, READ_DONE.pack(17, HEADER + 16, 0, len(data), 0, 0), data or b"\0")
 
     def write(self, request: Request) -> Handling:
-        message = request.message
-        length, offset = message.number(HEADER + 4, 4), message.number(HEADER + 8, 8)
-        data = message.view(HEADER + 2, length)
+        place, length, offset, flags = request.message.fields(WRITE)
+        data = request.message.view(place, length)
         if length > LONGEST_TRANSFER:
             raise StatusError(Status.INVALID_PARAMETER)
         fits = offset + length <= self._server.settings.limit
@@ -84,10 +85,10 @@ class Transfers(Handlers):
                 node.shown.changed(node.identity)
             record.changed(client, node, number, offset, data)
         yield from writing(client, node, opened.file_id, change, fits)
-        if opened.writes_through or message.number(HEADER + 44, 4) & WRITE_THROUGH:
+        if opened.writes_through or flags & WRITE_THROUGH:
             yield Meanwhile(partial(_sync, os.dup(node.file)))
         opened.position = offset + length
-        return Answer(Status.SUCCESS, struct.pack("<HHLLHH", 17, 0, length, 0, 0, 0) + b"\0")
+        return Answer(Status.SUCCESS, WRITE_DONE.pack(17, 0, length, 0, 0, 0) + b"\0")
 
     @staticmethod
     def _open(request: Request, call: Callable[[Manager, int, int, int], Decisions]) -> Waits[Open]:
