@@ -246,10 +246,10 @@ class Line:
             self.sent[by_client] += len(part)
         return packet
 
-    def begins(self, guid: int, dialect: int = 0x210, server: int = 0) -> None:
+    def begins(self, guid: int, dialect: int = 0x210, server: int = 0, path: str = tree_path("share")) -> None:
         self.asks(negotiate(guid))
         self.answers(negotiated(dialect, server))
-        self.asks(tree_connect())
+        self.asks(tree_connect(path.encode("utf-16le")))
         self.answers(tree_connected())
 
     def opens(self, identifier: int, number: int, key: int, state: int, asked: int | None = None, name: str = "f",

@@ -40,6 +40,17 @@ def two_caches(made: Made) -> Expected:
     return Expected(True, True)
 
 
+def two_caches_by(made: Made, path: str, is_one: bool) -> Expected:
+    """The same where the second client connects to a share by another path, which leads to the same one or not."""
+    line, other = Line(made, 50001), Line(made, 50002)
+    line.begins(1)
+    line.opens(3, 11, 0xA1, R | W | H)
+    other.begins(2, path=path)
+    other.opens(3, 22, 0xB2, R | H)
+    reads_still(line)
+    return Expected(is_one, is_one)
+
+
 def shares_after_a_break(line: Line, other: Line, name: str, number: int, acknowledgment: int, state: int = R | H) -> None:
     """Opens the file for `other`, whose grant comes once `line` has given up its write cache by the request of that MessageId.
     Then `line` reads what it has open with this number. So `other` may be granted no more than RH."""
@@ -344,7 +355,11 @@ def used_before_the_server_ended_it(made: Made) -> Expected:
 
 
 SCENARIOS: dict[str, Callable[[Made], Expected]] = {
-    "two caches": two_caches, "a break that is acknowledged": break_acknowledged,
+    "two caches": two_caches,
+    **{f"two caches by the path {path}": partial(two_caches_by, path=path, is_one=is_one)
+       for path, is_one in ((r"\\LOCALHOST\share", True), (r"\\server.example\share", True), (r"\\127.0.0.1\shared", False),
+                            (r"\\127.0.0.1\hare", False))},
+    "a break that is acknowledged": break_acknowledged,
     "a break that isn't acknowledged": break_not_acknowledged,
     **{f"three grants in a row, {'closed' if closes else 'and nothing after'}": partial(three_in_a_row, closes=closes)
        for closes in (True, False)},

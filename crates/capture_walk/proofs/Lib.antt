@@ -2,3 +2,4 @@ pub mod Removal
 pub mod Places
 pub mod Compounds
 pub mod Opening
+pub mod Shares

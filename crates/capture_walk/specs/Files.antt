@@ -1,4 +1,4 @@
--- Files: each of a server, a share's path, a name, a time at which it was made, and one life. Messages that are called past have the newest one first, and so
+-- Files: each of a server, a share, a name, a time at which it was made, and one life. Messages that are called past have the newest one first, and so
 -- has the table.
 use Rattle.std.specs.Prelude.{◌≡◌, ℕ, ◌==◌, ◌&&◌, ◌||◌, not, Bool, true, false, if◌then◌else◌, List, [], ◌∷◌, ◌++◌, Option, Some, None}
 use Rattle.std.specs.Prelude.{unwrap_or, bytes_eq}
@@ -23,9 +23,20 @@ pub record Place : Type 0 where
   pub name : List ℕ
   pub creation_time : ℕ
 
+-- What names a share in its path, by code units of two bytes: what comes after the last backslash. What stands before it names
+-- the server, which may have several names.
+abbrev pub behind_backslash : List ℕ → List ℕ → List ℕ
+behind_backslash share [] = share
+behind_backslash share (one ∷ []) = share
+behind_backslash share (low ∷ high ∷ others) =
+    behind_backslash (if low == 92 && high == 0 then others else share) others
+
+unfoldable pub share_of : List ℕ → List ℕ
+share_of path = behind_backslash path path
+
 abbrev pub is_same_place : Place → Place → Bool
 is_same_place one other =
-    ((one.server == other.server && one.creation_time == other.creation_time) && bytes_eq one.path other.path)
+    ((one.server == other.server && one.creation_time == other.creation_time) && bytes_eq (share_of one.path) (share_of other.path))
     && bytes_eq one.name other.name
 
 -- a file, by its place and its number

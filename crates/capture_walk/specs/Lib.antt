@@ -13,3 +13,4 @@ pub mod Reading
 pub mod Frames
 pub mod Compounds
 pub mod Laws
+pub mod Worked

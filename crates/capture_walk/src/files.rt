@@ -1,6 +1,6 @@
-ghost use Rattle.std.specs.Prelude.{◌++◌, ◌≡◌, ◌∷◌, [], if◌then◌else◌, Some, None, List, ◌∷◌, filter, OnOk, IfOk, unwrap_or};
+ghost use Rattle.std.specs.Prelude.{◌++◌, ◌≡◌, ◌==◌, ◌&&◌, ◌∷◌, [], if◌then◌else◌, Some, None, List, ◌∷◌, filter, OnOk, IfOk, unwrap_or};
 ghost use Rattle.capture_walk.specs.Files.{file_in, life_at, place_of_life, named_at, file_by, file_opened};
-ghost use Rattle.capture_walk.specs.Files.{is_same_place, place_view, KnowsFiles};
+ghost use Rattle.capture_walk.specs.Files.{is_same_place, place_view, share_of, KnowsFiles};
 ghost use Rattle.capture_walk.specs.Files as places;
 ghost use Rattle.std.specs.Option.{option_map};
 ghost use Rattle.capture_walk.specs.Renames as renames;
@@ -55,6 +55,31 @@ fn named_at(alloc: Global, place: Place<'_>, file: u64) -> Result<Named, Memory>
     })
 }
 
+// What stands behind a unit, where that is a backslash, else what stands behind the last one before it.
+fn behind_unit<'a>(low: u8, high: u8, behind: &'a [u8], share: &'a [u8]) -> &'a [u8]
+    ensures { result.now ≡ (if low == 92 && high == 0 then behind.now else share.now) }
+{
+    if low == b'\\' && high == 0 {
+        behind
+    } else {
+        share
+    }
+}
+
+// What names a share in its path.
+#[tactic(auto, unfolding(crate::specs::Files::share_of))]
+fn share_of(path: &[u8]) -> &[u8]
+    ensures { result.now ≡ share_of path.now }
+{
+    let mut share = path;
+    let mut rest = path;
+    while let [low, high, behind @ ..] = rest {
+        share = behind_unit(*low, *high, behind, share);
+        rest = behind;
+    }
+    share
+}
+
 impl Files {
     /// None. Allocates nothing.
     pub(crate) fn new(alloc: Global) -> Files
@@ -73,7 +98,7 @@ impl Files {
         for one in &self.named {
             if one.server == place.server
                 && one.creation_time == place.creation_time
-                && one.path.as_slice() == place.path
+                && share_of(one.path.as_slice()) == share_of(place.path)
                 && one.name.as_slice() == place.name
             {
                 return Some(one.file);

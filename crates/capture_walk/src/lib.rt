@@ -48,7 +48,7 @@ pub use event::{
 };
 pub use files::Place;
 pub use frame::Frame;
-pub use laws::opens_are_made;
+pub use laws::{opens_are_made, tables_are_as_worked};
 pub use note::{
     BreakNote, CreateAsked, CreateGiven, KeyLevel, LeaseGiven, Note, OpenName, Seen, TreeAsked,
     TreeGiven, TreeName,

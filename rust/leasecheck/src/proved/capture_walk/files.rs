@@ -47,6 +47,22 @@ fn named_at(alloc: Global, place: Place<'_>, file: u64) -> Result<Named, Memory>
     })
 }
 
+// What stands behind a unit, where that is a backslash, else what stands behind the last one before it.
+fn behind_unit<'a>(low: u8, high: u8, behind: &'a [u8], share: &'a [u8]) -> &'a [u8] {
+    if low == b'\\' && high == 0 { behind } else { share }
+}
+
+// What names a share in its path.
+fn share_of(path: &[u8]) -> &[u8] {
+    let mut share = path;
+    let mut rest = path;
+    while let [low, high, behind @ ..] = rest {
+        share = behind_unit(*low, *high, behind, share);
+        rest = behind;
+    }
+    share
+}
+
 impl Files {
     /// None. Allocates nothing.
     pub(crate) fn new(alloc: Global) -> Files {
@@ -58,7 +74,7 @@ impl Files {
         for one in &self.named {
             if one.server == place.server
                 && one.creation_time == place.creation_time
-                && one.path.as_slice() == place.path
+                && share_of(one.path.as_slice()) == share_of(place.path)
                 && one.name.as_slice() == place.name
             {
                 return Some(one.file);
