@@ -56,7 +56,6 @@ PACKAGES = (
         ),
     ),
     Package("lease_bench", ("lease_bench",)),
-    Package("server_comparison", ("server_comparison",)),
 )
 
 

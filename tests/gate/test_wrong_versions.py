@@ -7,8 +7,10 @@ from tests.paths import TESTS, TOP
 
 CRATES = TOP / "crates"
 # The gate proves a crate with edits once more, and then tries them one after another: two thirds of its time when there were 593.
+# The code of client, server and capture walk has none: its contracts are equations with definitions, which have edits of their
+# own, or worked examples.
 MOST_EDITS = 160
-MOST_CRATES = 10
+MOST_CRATES = 8
 ROW = re.compile(r"^\| [^|]+ \| (`[^|]+`) \|$", re.M)
 
 
@@ -36,5 +38,5 @@ def test_each_wrong_version_is_tried() -> None:
 
 def test_edits_are_few() -> None:
     edits = list(CRATES.glob("*/must-fail/*.edit"))
-    assert 100 < len(edits) <= MOST_EDITS
+    assert 80 < len(edits) <= MOST_EDITS
     assert len({it.parent for it in edits}) <= MOST_CRATES

@@ -1,8 +1,7 @@
-"""The proved server gives out and answers the same as a plain server without contracts, over each schedule and under each of
-the rules that a server may choose (crates/server_comparison)."""
+"""The server of the proved code gives out and answers the same as a plain server without contracts, over each schedule and under
+each of the rules that a server may choose (rust/server_comparison, which cargo builds)."""
 from __future__ import annotations
 
-import os
 import re
 import subprocess
 from pathlib import Path
@@ -10,22 +9,19 @@ from pathlib import Path
 import pytest
 
 from smblease.schedules import Event, Schedule
-from tests.paths import SCHEDULES, TESTS, TOP, name_of
+from tests import needs
+from tests.paths import SCHEDULES, TESTS, name_of
+from tests.program.comparison import built
 
-COMPARISON = TOP / "crates" / "server_comparison" / "out" / "server_comparison"
-
-
-needs_comparison = pytest.mark.skipif(not os.access(COMPARISON, os.X_OK),
-                                      reason="crates/server_comparison isn't built; the gate builds it")
-
-
+pytestmark = [needs.program("cargo"), pytest.mark.xdist_group("compared servers")]
+RULES = ("by-client,as-free", "by-client,whole", "by-key,as-free", "by-key,whole")
 SMALL_FILE = 65_536
 FEW_CLIENTS = 8
 
 
 def compared(schedule: Path, *words: str) -> dict[str, int]:
     """By rules, how many calls gave out the same."""
-    ended = subprocess.run([COMPARISON, *words, schedule], stdout=subprocess.PIPE, text=True, timeout=60, check=False)
+    ended = subprocess.run([built(), *words, schedule], stdout=subprocess.PIPE, text=True, timeout=60, check=False)
     same = re.compile(re.escape(str(schedule)) + r", (by-client|by-key),(as-free|whole): (\d+) calls, the same")
     found = [same.fullmatch(line) for line in ended.stdout.splitlines()]
     calls = {f"{it[1]},{it[2]}": int(it[3]) for it in found if it}
@@ -49,7 +45,13 @@ def has_small_files(schedule: Path) -> bool:
             and all(written_end(it) <= SMALL_FILE for it in read.events))
 
 
-@needs_comparison
+def test_worked_examples_and_calls_by_numbers() -> None:
+    ended = subprocess.run([built()], stdout=subprocess.PIPE, text=True, timeout=60, check=False)
+    wanted = [f"{what}, {rules}: {calls} calls, the same" for rules in RULES
+              for what, calls in (("worked examples", 89), ("calls by numbers", 1008))]
+    assert (ended.returncode, ended.stdout.splitlines()) == (0, wanted)
+
+
 @pytest.mark.parametrize("schedule", SCHEDULES, ids=name_of)
 def test_both_servers_do_the_same(schedule: Path) -> None:
     """The schedule is played to its end: each connection that comes or is lost is a call."""
@@ -58,18 +60,16 @@ def test_both_servers_do_the_same(schedule: Path) -> None:
     assert min(compared(schedule).values()) >= least
 
 
-@needs_comparison
 @pytest.mark.parametrize("schedule", [it for it in SCHEDULES if has_small_files(it)], ids=name_of)
 def test_a_smaller_limit_changes_nothing_within_it(schedule: Path) -> None:
     """A server whose files end at 65,536 bytes does the same where no write goes beyond."""
     assert compared(schedule, "--small-files") == compared(schedule)
 
 
-@needs_comparison
 def test_a_smaller_limit_is_seen_beyond_it(tmp_path: Path) -> None:
     path = tmp_path / "schedule"
     path.write_text("file -\nclient 11111111-1111-1111-1111-111111111111\nconnect 1\nopen 1 1 rw rw none\nserve 1\ntake 1\n"
                     "write 1 1 65536 00\nserve 1\n", encoding="ascii")
     assert not has_small_files(path) and compared(path)
-    ended = subprocess.run([COMPARISON, "--small-files", path], stdout=subprocess.PIPE, text=True, timeout=60, check=False)
+    ended = subprocess.run([built(), "--small-files", path], stdout=subprocess.PIPE, text=True, timeout=60, check=False)
     assert ended.returncode == 1 and "WriteFailed" in ended.stdout, ended.stdout[:2000]

@@ -12,11 +12,12 @@ from smblease import Order, Rise, Rules
 from smblease.processes import LineClients, client_process
 from smblease.schedules import Schedule
 from smblease.world import MachineWorld
+from tests import needs
 from tests.paths import SCHEDULES, TOP, name_of
+from tests.program.comparison import built
 from tests.program.line_server import LineServer, server_process
 from tests.program.ran import SAFE, Ended, run
 from tests.program.straying import SecondOpens, StrayingSchedule
-from tests.program.test_compared_servers import COMPARISON, needs_comparison
 from tests.program.test_machines import Lines
 
 PROFILE = Rules()
@@ -82,7 +83,7 @@ def test_a_server_of_lines(program: str, path: Path, rules: Rules) -> None:
 
 
 @pytest.mark.long
-@needs_comparison
+@needs.program("cargo")
 @pytest.mark.parametrize("made", [StrayingSchedule, SecondOpens])
 @pytest.mark.parametrize("number", range(2))
 def test_any_requests_under_every_rules(number: int, made: type[StrayingSchedule], chooser: random.Random,
@@ -92,7 +93,7 @@ def test_any_requests_under_every_rules(number: int, made: type[StrayingSchedule
     for _ in range(AT_ONCE):
         text = made(chooser).text()
         path.write_text(text, encoding="ascii")
-        ended = subprocess.run([COMPARISON, path], stdout=subprocess.PIPE, text=True, timeout=120, check=False)
+        ended = subprocess.run([built(), path], stdout=subprocess.PIPE, text=True, timeout=120, check=False)
         assert ended.returncode == 0, (text, ended.stdout[:2000])
         records = {rules: replayed(path, rules) for rules in EVERY}
         assert {run(["judge", "-"], it.encode()) for it in records.values()} == {Ended(0, SAFE)}, text

@@ -1,7 +1,7 @@
 //! The program `server_comparison`.
 #![cfg_attr(unix, no_main)]
 
-use server_comparison::proved::server_comparison::main as run;
+use server_comparison::run;
 use smblease_std::prelude::HostRuntime;
 
 /// Rust's own start would open a standard stream that is closed as `/dev/null`, and an input that is closed would pass for an empty one.
