@@ -38,6 +38,7 @@ PACKAGES = {"environment": ("ensurepip", "hatchling"), "drive/run": ("impacket",
 MOST_LINES = 150
 MOST_LINES_OF_A_USE = 200
 MOST_LINES_OF_A_PAGE = 480
+MOST_LINES_OF_ALL, MOST_WORDS_OF_ALL = 4_000, 40_000
 MARK = "-- the end of what the command printed:"
 
 
@@ -143,6 +144,13 @@ def test_pages_on_servers_are_short(name: str) -> None:
 def test_no_page_is_long() -> None:
     lines = {it: it.read_text(encoding="utf-8").count("\n") for it in [*TOP.glob("*.md"), *TOP.glob("docs/*.md")]}
     assert {it.name: count for it, count in lines.items() if count > MOST_LINES_OF_A_PAGE} == {}
+
+
+def test_pages_are_few_together() -> None:
+    """Words are what has a letter or a digit, and not the bars of tables."""
+    texts = [it.read_text(encoding="utf-8") for it in [*TOP.glob("*.md"), *TOP.glob("docs/*.md")]]
+    assert sum(it.count("\n") for it in texts) <= MOST_LINES_OF_ALL
+    assert sum(len([word for word in it.split() if re.search(r"\w", word)]) for it in texts) <= MOST_WORDS_OF_ALL
 
 
 def test_readme_begins_with_an_answer() -> None:
