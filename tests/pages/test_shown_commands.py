@@ -21,6 +21,7 @@ from tests.paths import TOP
 OTHERS = {
     "tools/setup": "needs root and apt-get; the gate runs it",
     "tools/cargo test": "takes minutes; `make check-rust` runs it",
+    "tools/release": "needs a tag; tests/install runs it",
     "tools/plain_build": "takes minutes; `make` runs it where dist/ doesn't fit",
     "make check": "takes minutes; the gate runs it, as it does check-long and lint",
     "make lint": "takes minutes; the gate runs it",

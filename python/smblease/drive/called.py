@@ -8,8 +8,8 @@ import os
 import sys
 from typing import Any
 
+from smblease._commit import commit
 from smblease._library import TOP
-from smblease.commit import commit
 from smblease.drive.faults import DriveFault
 from smblease.version import VERSION
 
