@@ -55,7 +55,6 @@ PACKAGES = (
             *("record_words", "text_laws", "leasecheck"),
         ),
     ),
-    Package("lease_bench", ("lease_bench",)),
 )
 
 

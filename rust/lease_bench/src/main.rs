@@ -1,7 +1,7 @@
 //! The program `lease_bench`.
 #![cfg_attr(unix, no_main)]
 
-use lease_bench::proved::lease_bench::main as run;
+use lease_bench::run;
 use smblease_std::prelude::HostRuntime;
 
 /// Rust's own start would open a standard stream that is closed as `/dev/null`, and an input that is closed would pass for an empty one.

@@ -1,5 +1,3 @@
-// Made by tools/plain_rust from crates/lease_bench/src/manager/weights.rt. Changes belong there.
-
 use smblease::proved::lease_manager::Decision;
 
 /// A number for a decision.

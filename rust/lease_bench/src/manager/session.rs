@@ -1,7 +1,7 @@
 use crate::manager::asks::{again, client, key, leased, plain, state};
 use crate::manager::stage::Stage;
-use lease_manager::{ClientNo, CreateAsk, FileNo};
-use lease_state::{FileId, Memory};
+use smblease::proved::lease_manager::{ClientNo, CreateAsk, FileNo};
+use smblease::proved::lease_state::{FileId, Memory};
 
 const READS_HANDLES: u32 = 3;
 
@@ -44,10 +44,7 @@ impl Scale {
         if rounds == 0 || place == 0 {
             return FileId(self.open(file, place).wrapping_add(1));
         }
-        let before = rounds
-            .wrapping_sub(1)
-            .wrapping_mul(self.files)
-            .wrapping_add(file);
+        let before = rounds.wrapping_sub(1).wrapping_mul(self.files).wrapping_add(file);
         let reopened = self.on_a_file().saturating_sub(1).wrapping_mul(before);
         FileId(self.opens.wrapping_add(reopened).wrapping_add(place))
     }
@@ -88,11 +85,7 @@ fn file_no(file: u64) -> FileNo {
 
 fn open_file(stage: &mut Stage, scale: Scale, file: u64) -> Result<(), Memory> {
     for place in 0..scale.on_a_file() {
-        stage.open(
-            scale.client(file, place),
-            file_no(file),
-            ask_for(file, place),
-        )?;
+        stage.open(scale.client(file, place), file_no(file), ask_for(file, place))?;
         if place == 1 {
             stage.acknowledge(scale.client(file, 0), key(file), state(READS_HANDLES))?;
         }
@@ -110,13 +103,7 @@ fn play_round(stage: &mut Stage, scale: Scale, round: u64) -> Result<(), Memory>
     Ok(())
 }
 
-fn play_open(
-    stage: &mut Stage,
-    scale: Scale,
-    file: u64,
-    place: u64,
-    round: u64,
-) -> Result<(), Memory> {
+fn play_open(stage: &mut Stage, scale: Scale, file: u64, place: u64, round: u64) -> Result<(), Memory> {
     let one = scale.client(file, place);
     let fid = scale.file_id(file, place, round);
     if has_lease(place) {

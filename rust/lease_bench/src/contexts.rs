@@ -1,7 +1,8 @@
 //! Create contexts that are read or written many times, for `bench/contexts`.
+use std::prelude::Vec;
 
-use lease_state::{FileId, LeaseKey, LeaseState, Memory};
-use lease_wire::{CreateAsk, read_create, write_create_ask};
+use smblease::proved::lease_state::{FileId, LeaseKey, LeaseState, Memory};
+use smblease::proved::lease_wire::{CreateAsk, read_create, write_create_ask};
 use std::alloc::Global;
 
 // A request with a lease of RWH, a foreign context and a durable open.
@@ -26,26 +27,20 @@ fn read_many(count: u32) -> u64 {
 
 // The ask of 96 bytes that is written each time.
 fn same_ask(turn: u32) -> CreateAsk {
-    CreateAsk {
-        lease: Some((LeaseKey([(turn % 256) as u8; 16]), LeaseState::from_wire(3))),
-        durable: true,
-        reconnect: None,
-    }
+    CreateAsk { lease: Some((LeaseKey([(turn % 256) as u8; 16]), LeaseState::from_wire(3))), durable: true, reconnect: None }
 }
 
 // Asks for other contexts from turn to turn, of none to 136 bytes.
 fn other_ask(turn: u32) -> CreateAsk {
     let key = LeaseKey([(turn % 256) as u8; 16]);
     CreateAsk {
-        lease: (turn % 4 != 0).then_some((key, LeaseState::from_wire(turn))),
-        durable: turn % 3 == 0,
+        lease: (!turn.is_multiple_of(4)).then_some((key, LeaseState::from_wire(turn))),
+        durable: turn.is_multiple_of(3),
         reconnect: (turn % 8 == 3).then_some(FileId(u64::from(turn))),
     }
 }
 
-fn write_many<F: Fn(u32) -> CreateAsk>(alloc: Global, count: u32, ask_at: F) -> Result<u64, Memory>
-    requires { F.IsAlwaysCallable ask_at }
-{
+fn write_many<F: Fn(u32) -> CreateAsk>(alloc: Global, count: u32, ask_at: F) -> Result<u64, Memory> {
     let mut out = Vec::new(alloc);
     let mut sum = 0u64;
     for turn in 0..count {

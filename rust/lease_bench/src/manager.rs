@@ -1,5 +1,3 @@
-// Made by tools/plain_rust from crates/lease_bench/src/manager.rt. Changes belong there.
-
 //! What clients ask of a lease manager, for `bench/manager`.
 
 mod asks;
@@ -8,9 +6,9 @@ mod session;
 mod stage;
 mod weights;
 
-use crate::proved::lease_bench::manager::families::Family;
-use crate::proved::lease_bench::manager::session::Scale;
-use crate::proved::lease_bench::manager::stage::Stage;
+use crate::manager::families::Family;
+use crate::manager::session::Scale;
+use crate::manager::stage::Stage;
 use smblease::proved::lease_state::Memory;
 use std::alloc::Global;
 

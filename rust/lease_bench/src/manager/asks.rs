@@ -1,5 +1,3 @@
-// Made by tools/plain_rust from crates/lease_bench/src/manager/asks.rt. Changes belong there.
-
 use smblease::proved::lease_manager::{Ask, ClientNo, CreateAsk, FileNo};
 use smblease::proved::lease_state::{Access, FileId, LeaseKey, LeaseState, Share};
 

@@ -1,7 +1,7 @@
 use crate::manager::asks::{client, key, leased, plain, state};
 use crate::manager::stage::Stage;
-use lease_manager::{Ask, CreateAsk, FileNo};
-use lease_state::{Access, FileId, Memory, Share};
+use smblease::proved::lease_manager::{Ask, CreateAsk, FileNo};
+use smblease::proved::lease_state::{Access, FileId, Memory, Share};
 
 /// How many clients a family has.
 pub const CLIENTS: u64 = 3;
@@ -56,12 +56,7 @@ pub fn play(stage: &mut Stage, family: Family, size: u64) -> Result<(), Memory> 
 }
 
 fn create_as(access: Access, share: Share, ask: CreateAsk) -> Ask {
-    Ask::Create {
-        file: FILE,
-        access,
-        share,
-        ask,
-    }
+    Ask::Create { file: FILE, access, share, ask }
 }
 
 // The first client opens the file under n keys.
@@ -75,10 +70,7 @@ fn leases(stage: &mut Stage, size: u64, want: u32) -> Result<(), Memory> {
 
 // A create of the second client that conflicts with all opens that there are.
 fn conflicting(stage: &mut Stage) -> Result<(), Memory> {
-    stage.ask(
-        client(2),
-        create_as(Access::Write, Share::ReadWrite, plain()),
-    )
+    stage.ask(client(2), create_as(Access::Write, Share::ReadWrite, plain()))
 }
 
 fn acknowledged(stage: &mut Stage, size: u64) -> Result<(), Memory> {

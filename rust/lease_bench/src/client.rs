@@ -1,8 +1,9 @@
 //! A client that is called many times, for `bench/client`.
+use std::prelude::{Vec, vec};
 
-use lease_client::{Answer, Client, Command, lease_key};
-use lease_state::{Access, Bytes, FileId, FileNo, LeaseState, Memory, Patch, Reply, Share};
-use lease_wire::{CreateAnswer, write_create_reply};
+use smblease::proved::lease_client::{Answer, Client, Command, lease_key};
+use smblease::proved::lease_state::{Access, Bytes, FileId, FileNo, LeaseState, Memory, Patch, Reply, Share};
+use smblease::proved::lease_wire::{CreateAnswer, write_create_reply};
 use std::alloc::Global;
 
 const GUID: [u8; 16] = [0x11; 16];
@@ -23,16 +24,9 @@ fn opened(alloc: Global, state: u32) -> Result<Client, Memory> {
     };
     let client = client.app(open)?.client;
     let mut contexts = Vec::new(alloc);
-    let answer = CreateAnswer {
-        lease: Some((lease_key(GUID, FILE), LeaseState::from_wire(state), false)),
-        durable: false,
-    };
+    let answer = CreateAnswer { lease: Some((lease_key(GUID, FILE), LeaseState::from_wire(state), false)), durable: false };
     write_create_reply(&answer, &mut contexts)?;
-    let created = Reply::Created {
-        file: FILE,
-        fid: FileId(1),
-        contexts: Bytes::new(contexts),
-    };
+    let created = Reply::Created { file: FILE, fid: FileId(1), contexts: Bytes::new(contexts) };
     Ok(client.take(created)?.client)
 }
 
@@ -42,16 +36,10 @@ fn write_many(alloc: Global, count: u32) -> Result<u64, Memory> {
     let mut sum = 0u64;
     for turn in 0..count {
         let bytes = Bytes::new(Vec::from_slice(alloc, &[(turn % 256) as u8; 64])?);
-        let patch = Patch {
-            offset: turn % 1000,
-            bytes,
-        };
+        let patch = Patch { offset: turn % 1000, bytes };
         let step = client.app(Command::Write { file: FILE, patch })?;
         sum = sum.wrapping_add(step.requests.len() as u64);
-        let done = Reply::WriteDone {
-            fid: FileId(1),
-            number: u64::from(turn) + 1,
-        };
+        let done = Reply::WriteDone { fid: FileId(1), number: u64::from(turn) + 1 };
         let step = step.client.take(done)?;
         sum = sum.wrapping_add(step.notes.len() as u64);
         client = step.client;
@@ -62,10 +50,7 @@ fn write_many(alloc: Global, count: u32) -> Result<u64, Memory> {
 // Reads of a large file from the cache.
 fn read_many(alloc: Global, count: u32) -> Result<u64, Memory> {
     let client = opened(alloc, 1)?.app(Command::Read { file: FILE })?.client;
-    let done = Reply::ReadDone {
-        fid: FileId(1),
-        bytes: Bytes::new(vec![in alloc; 7; SIZE]?),
-    };
+    let done = Reply::ReadDone { fid: FileId(1), bytes: Bytes::new(vec![in alloc; 7; SIZE]?) };
     let mut client = client.take(done)?.client;
     let mut sum = 0u64;
     for _ in 0..count {

@@ -1,5 +1,3 @@
-// Made by tools/plain_rust from crates/lease_bench/src/captures.rt. Changes belong there.
-
 //! A capture of clients that open, use and close files of one server under leases which are broken as others open them, for
 //! `bench/walk`.
 use std::prelude::Vec;

@@ -1,10 +1,9 @@
 //! A session of a file server with eight clients on eight files, for `bench/server`: each client opens a file, writes and
 //! reads it; another opens it too, which breaks the first one's lease; the first acknowledges that, and both close.
+use std::prelude::Vec;
 
-use lease_state::{
-    Access, Bytes, ClientNo, Content, FileId, FileNo, Memory, Patch, Reply, Request, Share,
-};
-use share_server::{Out, Server};
+use smblease::proved::lease_state::{Access, Bytes, ClientNo, Content, FileId, FileNo, Memory, Patch, Reply, Request, Share};
+use smblease::proved::share_server::{Out, Server};
 use std::alloc::Global;
 
 // How many clients there are, and how many files.
@@ -42,11 +41,7 @@ struct Standing {
 
 impl Standing {
     fn file(self, number: u32) -> u8 {
-        if self.same_files {
-            (number % COUNT + 1) as u8
-        } else {
-            9
-        }
+        if self.same_files { (number % COUNT + 1) as u8 } else { 9 }
     }
 }
 
@@ -87,25 +82,12 @@ fn acknowledgment(file: u8) -> Request {
 
 fn write(alloc: Global, fid: FileId, turn: u32) -> Result<Request, Memory> {
     let bytes = Bytes::new(Vec::from_slice(alloc, &[(turn % 256) as u8])?);
-    let patch = Patch {
-        offset: turn % 64,
-        bytes,
-    };
-    Ok(Request::Write {
-        fid,
-        number: u64::from(turn),
-        patch,
-    })
+    let patch = Patch { offset: turn % 64, bytes };
+    Ok(Request::Write { fid, number: u64::from(turn), patch })
 }
 
 // The request of this step of a round, by its client on the file, and who asks it.
-fn request(
-    alloc: Global,
-    step: u32,
-    file: u8,
-    turn: u32,
-    standing: u32,
-) -> Result<(ClientNo, Request), Memory> {
+fn request(alloc: Global, step: u32, file: u8, turn: u32, standing: u32) -> Result<(ClientNo, Request), Memory> {
     let first = ClientNo(file);
     let second = ClientNo(file % 8 + 1);
     let mine = FileId(u64::from(standing) + u64::from(turn) * 16 + u64::from(file));
@@ -124,9 +106,7 @@ fn request(
 // A number for what was given out.
 fn weight(out: &Out) -> u64 {
     match out {
-        Out::Opened(file, client) => u64::from(file.0)
-            .wrapping_mul(3)
-            .wrapping_add(u64::from(client.0)),
+        Out::Opened(file, client) => u64::from(file.0).wrapping_mul(3).wrapping_add(u64::from(client.0)),
         Out::Changed(file, _, number, _) => number.wrapping_add(u64::from(file.0)),
         Out::Sent(client, reply) => reply_weight(reply).wrapping_add(u64::from(client.0)),
     }
@@ -138,9 +118,7 @@ fn reply_weight(reply: &Reply) -> u64 {
         Reply::ReadDone { bytes, .. } => bytes.len() as u64,
         Reply::WriteDone { number, .. } => number.wrapping_mul(7),
         Reply::Closed { fid } => fid.0,
-        Reply::Break(message) => u64::from(message[24])
-            .wrapping_mul(16)
-            .wrapping_add(u64::from(message[28])),
+        Reply::Break(message) => u64::from(message[24]).wrapping_mul(16).wrapping_add(u64::from(message[28])),
         Reply::AckDone(message) => u64::from(message[24]).wrapping_mul(256),
         _ => 1_000_003,
     }
@@ -154,20 +132,9 @@ fn weights(outs: &[Out]) -> u64 {
     sum
 }
 
-fn call(
-    alloc: Global,
-    server: Server,
-    number: u32,
-    standing: u32,
-) -> Result<(Server, u64), Memory> {
+fn call(alloc: Global, server: Server, number: u32, standing: u32) -> Result<(Server, u64), Memory> {
     let file = (number % COUNT + 1) as u8;
-    let (client, asked) = request(
-        alloc,
-        number / COUNT % STEPS,
-        file,
-        number / (COUNT * STEPS),
-        standing,
-    )?;
+    let (client, asked) = request(alloc, number / COUNT % STEPS, file, number / (COUNT * STEPS), standing)?;
     let (server, outs) = server.receive(client, asked)?;
     Ok((server, weights(&outs)))
 }

@@ -1,7 +1,5 @@
-// Made by tools/plain_rust from crates/lease_bench/src/manager/stage.rt. Changes belong there.
-
-use crate::proved::lease_bench::manager::asks::create;
-use crate::proved::lease_bench::manager::weights::weight;
+use crate::manager::asks::create;
+use crate::manager::weights::weight;
 use smblease::proved::lease_manager::{Ask, ClientNo, CreateAsk, Decision, FileNo, Manager, Tag};
 use smblease::proved::lease_state::{FileId, LeaseKey, LeaseState, Memory, Rules};
 use std::alloc::Global;
