@@ -5,6 +5,7 @@ pub mod Taken
 pub mod Found
 pub mod Losses
 pub mod Verdicts
+pub mod NamesShown
 pub mod Casting
 pub mod Changing
 pub mod Recording

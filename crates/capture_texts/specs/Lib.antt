@@ -6,5 +6,6 @@ pub mod Servers
 pub mod Captures
 pub mod Reports
 pub mod Verdicts
+pub mod Texts
 pub mod Laws
 pub mod records

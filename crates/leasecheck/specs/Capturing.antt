@@ -6,6 +6,7 @@ use Rattle.capture_texts.specs.records.Records.{IsRecord, are_lines, facts_in}
 use Rattle.capture_texts.specs.declared.records.record.RecordLine.{RecordLine}
 use Rattle.capture_texts.specs.declared.records.record.RecordLine.TheVariants as line
 use Rattle.capture_texts.specs.Reports.{verdict_of}
+use Rattle.capture_texts.specs.Texts.{findings_text}
 use Rattle.capture_texts.specs.Verdicts.{IsReportOn}
 use Rattle.capture_texts.specs.declared.finding.CaptureVerdict.{CaptureVerdict}
 use Rattle.capture_texts.specs.declared.finding.CaptureVerdict.TheVariants as verdict
@@ -45,3 +46,10 @@ pub record TellsRecord (side : Side) (bytes text : List ℕ) (status : ℕ) : Ty
   pub one-line : are_lines lines ≡ true
   pub also-one-line : are_lines notes ≡ true
   pub status-is : status ≡ capture_status (verdict_of report.files.items)
+
+-- This is what is found in the capture that these bytes are, and the verdict on it.
+pub record FindsIn (side : Side) (bytes findings : List ℕ) (told : CaptureVerdict) : Type 0 where
+  pub report : Report
+  pub reports : IsReportOn side bytes report
+  pub found : findings ≡ findings_text report
+  pub verdict : told ≡ verdict_of report.files.items

@@ -3,11 +3,10 @@ use Rattle.std.specs.Prelude.{◌≡◌, ℕ, ◌++◌, List, [], ◌∷◌, cod
 use Rattle.std.specs.String.{string_bytes}
 use Rattle.std.specs.Io.KnownBytes.{Appends}
 use Rattle.leasecheck.specs.Answer.{AnswersWith}
-use Rattle.capture_texts.specs.Verdicts.{IsVerdictOnCapture}
 use Rattle.capture_texts.specs.declared.finding.CaptureVerdict.{CaptureVerdict}
 use Rattle.capture_texts.specs.declared.line.Side.{Side}
 use Rattle.leasecheck.specs.Arguments.{Gives}
-use Rattle.leasecheck.specs.Capturing.{capture_line, capture_status, TellsRecord}
+use Rattle.leasecheck.specs.Capturing.{capture_line, capture_status, FindsIn, TellsRecord}
 use Rattle.lease_facts.specs.declared.verdict.Verdict.{Verdict}
 use Rattle.lease_facts.specs.declared.verdict.Verdict.TheVariants as verdict
 use Rattle.lease_state.specs.declared.rules.Rules.{Rules}
@@ -45,15 +44,14 @@ abbrev pub TellsReason : Form → List ℕ → List ℕ → ℕ → Type 0
 TellsReason told bytes text status = (verdict : Verdict) × (explanation : List ℕ) × (text ≡ reason_text told verdict explanation)
     × (status ≡ status_of verdict) × ExplainsVerdict bytes verdict explanation
 
--- The text tells the verdict on a capture, and then what is found in it, of which nothing is said here. The status is that of the
--- verdict.
+-- The text tells the verdict on a capture, and then what is found in it. The status is that of the verdict.
 abbrev pub findings_text : Form → CaptureVerdict → List ℕ → List ℕ
 findings_text output.Lines verdict findings = capture_line verdict ++ findings
 findings_text output.Json verdict findings = object_text (capture_members verdict) (codes "findings") (lines_of findings)
 
 abbrev pub TellsFindings : Form → Side → List ℕ → List ℕ → ℕ → Type 0
 TellsFindings told side bytes text status = (verdict : CaptureVerdict) × (findings : List ℕ)
-    × (text ≡ findings_text told verdict findings) × (status ≡ capture_status verdict) × IsVerdictOnCapture side bytes verdict
+    × (text ≡ findings_text told verdict findings) × (status ≡ capture_status verdict) × FindsIn side bytes findings verdict
 
 -- or it is the record of it, with the same as remarks; where it is an object the verdict stands before these lines
 abbrev pub capture_record_text : Form → CaptureVerdict → List ℕ → List ℕ

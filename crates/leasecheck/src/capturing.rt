@@ -1,14 +1,16 @@
 ghost use Rattle.std.specs.Prelude.{◌≡◌, ◌⊎◌, ◌++◌, ◌∷◌, [], ℕ, List, None, Some, codes, IfOk, IfErr, OnOk};
+ghost use Rattle.std.specs.List.{flat_map};
 ghost use Rattle.std.specs.String.{string_bytes};
 ghost use Rattle.capture_texts.specs.Captures.{IsReadFrom, capture_in};
-ghost use Rattle.capture_texts.specs.Verdicts.{IsVerdictOnCapture};
-ghost use Rattle.leasecheck.specs.Capturing.{TellsRecord, capture_line, capture_status, lines_printed};
+ghost use Rattle.capture_texts.specs.Texts.{epoch_line, file_line, findings_text, lost_line};
+ghost use Rattle.leasecheck.specs.Capturing.{FindsIn, TellsRecord, capture_line, capture_status, lines_printed};
 ghost use Rattle.leasecheck.specs.Refusals.{line_refusal};
 
 use crate::failure::Failure;
 use crate::refusal::Refusal;
 use capture_texts::{
-    Capture, CaptureVerdict, RecordLine, Report, Side, notes_of, read_capture, record_of,
+    Capture, CaptureVerdict, ClientFinding, EpochFinding, FileFinding, RecordLine, Report, Side,
+    notes_of, push_counts, push_epoch, push_file, push_lost, read_capture, record_of,
 };
 use lease_texts::{TextFault, push_fact};
 use std::alloc::{AllocError, Global};
@@ -36,36 +38,52 @@ fn push_verdict(text: &mut String, verdict: CaptureVerdict) -> Result<(), AllocE
     }
 }
 
-fn push_files(text: &mut String, report: &Report) -> Result<(), AllocError> {
-    for file in &report.files {
-        writeln!(text, "{file}")?;
+fn push_files(alloc: Global, text: &mut String, files: &[FileFinding]) -> Result<(), AllocError>
+    ensures { OnOk result (string_bytes text.new ≡ string_bytes text.old ++ flat_map file_line files.now) }
+{
+    for file in files {
+        push_file(alloc, text, file)?;
+        text.push_str("\n")?;
     }
     Ok(())
 }
 
-fn push_clients(text: &mut String, report: &Report) -> Result<(), AllocError> {
-    for client in &report.clients {
-        writeln!(text, "{client}")?;
+fn push_clients(
+    alloc: Global,
+    text: &mut String,
+    clients: &[ClientFinding],
+) -> Result<(), AllocError>
+    ensures { OnOk result (string_bytes text.new ≡ string_bytes text.old ++ flat_map lost_line clients.now) }
+{
+    for client in clients {
+        push_lost(alloc, text, client)?;
+        text.push_str("\n")?;
     }
     Ok(())
 }
 
-fn push_epochs(text: &mut String, report: &Report) -> Result<(), AllocError> {
-    for epoch in &report.epochs {
-        writeln!(text, "{epoch}")?;
+fn push_epochs(alloc: Global, text: &mut String, epochs: &[EpochFinding]) -> Result<(), AllocError>
+    ensures { OnOk result (string_bytes text.new ≡ string_bytes text.old ++ flat_map epoch_line epochs.now) }
+{
+    for epoch in epochs {
+        push_epoch(alloc, text, epoch)?;
+        text.push_str("\n")?;
     }
     Ok(())
 }
 
 // What is found: a line for each file, one for each client that isn't judged, one for each epoch that doesn't follow on, and what
 // there is in the capture.
-fn findings_of(alloc: Global, report: &Report) -> Result<String, AllocError> {
+#[tactic(auto, unfolding(capture_texts::specs::Texts::findings_text))]
+fn findings_of(alloc: Global, report: &Report) -> Result<String, AllocError>
+    ensures { IfOk result (λ text. string_bytes text ≡ findings_text report.now) }
+{
     let mut text = String::new(alloc);
-    push_files(&mut text, report)?;
-    push_clients(&mut text, report)?;
-    push_epochs(&mut text, report)?;
-    let counts = report.counts;
-    writeln!(&mut text, "{counts}")?;
+    push_files(alloc, &mut text, &report.files)?;
+    push_clients(alloc, &mut text, &report.clients)?;
+    push_epochs(alloc, &mut text, &report.epochs)?;
+    push_counts(&mut text, report.counts)?;
+    text.push_str("\n")?;
     Ok(text)
 }
 
@@ -79,7 +97,7 @@ pub fn capture_findings(
     side: Side,
     text: &[u8],
 ) -> Result<(String, CaptureVerdict), Refusal>
-    ensures told { IfOk result (λ answer. IsVerdictOnCapture side text.now answer.1) }
+    ensures told { IfOk result (λ answer. FindsIn side text.now (string_bytes answer.0) answer.1) }
     ensures accepted { OnOk result (line_refusal (capture_in text.now) ≡ None) }
     ensures refused { IfErr result (λ told. (told.failure ≡ Failure.Memory)
         ⊎ (line_refusal (capture_in text.now) ≡ Some told.failure)) }

@@ -3,6 +3,7 @@ ghost use Rattle.capture_texts.specs.records.Records.{are_lines, facts_in};
 
 use crate::finding::{ClientFinding, EpochFinding, FileFinding, Report};
 use crate::records::record::{RecordLine, push_remark};
+use crate::texts::{push_counts, push_epoch, push_file, push_lost};
 use lease_state::Memory;
 use std::alloc::Global;
 
@@ -16,7 +17,7 @@ fn push_files(
 {
     for file in files {
         let mut remark = String::new(alloc);
-        write!(&mut remark, "{file}")?;
+        push_file(alloc, &mut remark, file)?;
         push_remark(lines, remark)?;
     }
     Ok(())
@@ -32,7 +33,7 @@ fn push_clients(
 {
     for client in clients {
         let mut remark = String::new(alloc);
-        write!(&mut remark, "{client}")?;
+        push_lost(alloc, &mut remark, client)?;
         push_remark(lines, remark)?;
     }
     Ok(())
@@ -48,7 +49,7 @@ fn push_epochs(
 {
     for epoch in epochs {
         let mut remark = String::new(alloc);
-        write!(&mut remark, "{epoch}")?;
+        push_epoch(alloc, &mut remark, epoch)?;
         push_remark(lines, remark)?;
     }
     Ok(())
@@ -69,7 +70,7 @@ pub fn notes_of(alloc: Global, report: &Report) -> Result<Vec<RecordLine>, Memor
     push_clients(alloc, &mut notes, report.clients.as_slice())?;
     push_epochs(alloc, &mut notes, report.epochs.as_slice())?;
     let mut counts = String::new(alloc);
-    write!(&mut counts, "{}", report.counts)?;
+    push_counts(&mut counts, report.counts)?;
     push_remark(&mut notes, counts)?;
     Ok(notes)
 }

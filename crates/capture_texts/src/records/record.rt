@@ -10,6 +10,7 @@ use crate::finding::{ClientName, FileFinding, Report};
 use crate::line::Moment;
 use crate::records::cast::{Cast, MOST, cast_of, count_wanted};
 use crate::records::change::{Change, changes_of};
+use crate::texts::{push_client, push_moment, push_place};
 use capture_judge::Level;
 use lease_facts::Fact;
 use lease_state::{Bytes, ClientNo, FileNo, LeaseState, Memory};
@@ -63,7 +64,8 @@ fn file_remark(alloc: Global, number: u8, file: Option<&FileFinding>) -> Result<
     let mut remark = String::new(alloc);
     write!(&mut remark, "file {number}")?;
     if let Some(place) = file.and_then(|file| file.place.as_ref()) {
-        write!(&mut remark, " is {place}")?;
+        remark.push_str(" is ")?;
+        push_place(alloc, &mut remark, place)?;
     }
     Ok(remark)
 }
@@ -72,14 +74,15 @@ fn client_remark(alloc: Global, number: u8, name: Option<&ClientName>) -> Result
     let mut remark = String::new(alloc);
     write!(&mut remark, "client {number}")?;
     if let Some(name) = name {
-        write!(&mut remark, " is {name}")?;
+        remark.push_str(" is ")?;
+        push_client(alloc, &mut remark, name)?;
     }
     Ok(remark)
 }
 
 // A moment with the names of its messages.
-fn push_moment(remark: &mut String, moment: &Moment) -> Result<(), Memory> {
-    write!(remark, "{moment}")?;
+fn push_named_moment(alloc: Global, remark: &mut String, moment: &Moment) -> Result<(), Memory> {
+    push_moment(alloc, remark, moment)?;
     for name in moment.messages.as_slice() {
         write!(remark, ", {name}")?;
     }
@@ -93,7 +96,7 @@ fn change_remark(alloc: Global, files: &[FileFinding], change: Change) -> Result
         .map(|file| file.beliefs.as_slice());
     let belief = beliefs.and_then(|beliefs| beliefs.get(change.belief));
     match belief.and_then(|belief| belief.moment.as_ref()) {
-        Some(moment) => push_moment(&mut remark, moment)?,
+        Some(moment) => push_named_moment(alloc, &mut remark, moment)?,
         None => remark.push_str("before all packets")?,
     }
     Ok(remark)

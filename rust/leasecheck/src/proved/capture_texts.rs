@@ -8,7 +8,7 @@
 //! let report = capture.report(alloc)?;
 //! println!(rt; "{}", report.verdict())?;
 //! for file in &report.files {
-//!     println!(rt; "{file}")?;
+//!     push_file(alloc, &mut text, file)?;
 //! }
 //! ```
 //!
@@ -46,4 +46,5 @@ pub use finding::{
 pub use line::{Moment, Side};
 pub use names::{MessageName, MessageNames, MessagePart};
 pub use records::{RecordLine, notes_of, record_of};
+pub use texts::{push_counts, push_epoch, push_file, push_lost};
 pub use whole::read_capture;

@@ -1,6 +1,7 @@
 // Made by tools/plain_rust from crates/capture_texts/src/texts.rt. Changes belong there.
 
 //! What people read of a report: a line of words for each finding.
+use std::prelude::String;
 
 use crate::proved::capture_texts::finding::{
     CaptureVerdict, ClientFinding, ClientName, Counts, EpochFinding, FileFinding, FilePlace, Judged,
@@ -9,57 +10,204 @@ use crate::proved::capture_texts::line::Moment;
 use crate::proved::capture_texts::names::{MessageName, MessagePart};
 use crate::proved::capture_walk::NotJudged;
 use crate::proved::capture_wire::Command;
-use byteorder::{ByteOrder, LittleEndian};
-use smblease::proved::lease_state::Bytes;
-use std::fmt::{self, Write};
+use crate::proved::lease_texts::push_all_escaped;
+use std::alloc::{AllocError, Global};
+use std::fmt;
 
-// Whether a reader sees the character, and the text round it as it is.
-fn is_seen(letter: char) -> bool {
-    !letter.is_control() && !matches!(letter, '\u{200e}'..='\u{200f}' | '\u{2028}'..='\u{202e}' | '\u{2066}'..='\u{2069}')
+fn is_from_to(first: u32, behind: u32, code: u32) -> bool {
+    first <= code && code < behind
 }
 
-fn write_letter(f: &mut fmt::Formatter<'_>, letter: char) -> fmt::Result {
-    if is_seen(letter) { f.write_char(letter) } else { write!(f, "\\u{{{:x}}}", u32::from(letter)) }
+// Whether a reader doesn't see the character, or it changes the text round it, or it is half a pair.
+fn is_hidden(code: u32) -> bool {
+    (code < 32 || (is_from_to(127, 160, code) || is_from_to(0x200e, 0x2010, code)))
+        || ((is_from_to(0x2028, 0x202f, code) || is_from_to(0x2066, 0x206a, code)) || is_from_to(0xd800, 0xe000, code))
 }
 
-// A word of a line: bytes that aren't printable ASCII as `\xHH`.
-fn write_word(f: &mut fmt::Formatter<'_>, bytes: &Bytes) -> fmt::Result {
-    for byte in bytes.as_slice() {
-        if byte.is_ascii_graphic() {
-            f.write_char(char::from(*byte))?;
-        } else {
-            write!(f, "\\x{byte:02x}")?;
-        }
+fn push_letter(text: &mut String, code: u32) -> Result<(), AllocError> {
+    match char::from_u32(code) {
+        Some(letter) if !is_hidden(code) => text.push(letter),
+        _ => write!(text, "\\u{{{code:x}}}"),
     }
-    Ok(())
+}
+
+fn unit(low: u8, high: u8) -> u32 {
+    u32::from(low) + u32::from(high) * 256
+}
+
+fn are_pair(first: u32, second: u32) -> bool {
+    (0xd800 <= first && first < 0xdc00) && (0xdc00 <= second && second < 0xe000)
+}
+
+fn pair_of(first: u32, second: u32) -> u32 {
+    0x1_0000 + ((first - 0xd800) * 0x400 + (second - 0xdc00))
+}
+
+// The letter of two units where they are a pair, and what comes after both; else that of the first, and what comes after that.
+fn one_or_pair<'a>(first: u32, second: u32, behind: &'a [u8], others: &'a [u8]) -> (u32, &'a [u8]) {
+    if are_pair(first, second) { (pair_of(first, second), others) } else { (first, behind) }
+}
+
+// The first letter of a name that begins with a unit of these bytes, and what comes after it.
+fn letter_and_rest(low: u8, high: u8, behind: &[u8]) -> (u32, &[u8]) {
+    match behind {
+        [next, last, others @ ..] => one_or_pair(unit(low, high), unit(*next, *last), behind, others),
+        _ => (unit(low, high), behind),
+    }
 }
 
 // Half a unit at the end of a name.
-fn write_rest(f: &mut fmt::Formatter<'_>, bytes: &[u8]) -> fmt::Result {
-    match bytes.last() {
-        Some(byte) if bytes.len() % 2 == 1 => write!(f, "\\x{byte:02x}"),
+fn push_half(alloc: Global, text: &mut String, byte: u8) -> Result<(), AllocError> {
+    let digits = std::ports::hex::encode(alloc, [byte])?;
+    write!(text, "\\x{digits}")
+}
+
+// A name in UTF-16. What isn't valid in it is written as `\u{HHHH}`, and a last byte alone as `\xHH`.
+fn push_name(alloc: Global, text: &mut String, bytes: &[u8]) -> Result<(), AllocError> {
+    let mut rest = bytes;
+    while let [low, high, behind @ ..] = rest {
+        let (letter, next) = letter_and_rest(*low, *high, behind);
+        push_letter(text, letter)?;
+        rest = next;
+    }
+    match rest {
+        [byte, ..] => push_half(alloc, text, *byte),
         _ => Ok(()),
     }
 }
 
-// A name in UTF-16. What isn't valid in it is written as `\u{HHHH}`, and a last byte alone as `\xHH`.
-fn write_name(f: &mut fmt::Formatter<'_>, bytes: &Bytes) -> fmt::Result {
-    let bytes = bytes.as_slice();
-    let units = bytes.chunks_exact(2).map(LittleEndian::read_u16);
-    for letter in char::decode_utf16(units) {
-        match letter {
-            Ok(letter) => write_letter(f, letter)?,
-            Err(unpaired) => write!(f, "\\u{{{:x}}}", unpaired.unpaired_surrogate())?,
-        }
-    }
-    write_rest(f, bytes)
+pub(crate) fn push_place(alloc: Global, text: &mut String, place: &FilePlace) -> Result<(), AllocError> {
+    push_all_escaped(alloc, text, place.server.as_slice())?;
+    text.push_str(" ")?;
+    push_name(alloc, text, place.path.as_slice())?;
+    text.push_str("\\")?;
+    push_name(alloc, text, place.name.as_slice())
 }
 
-impl fmt::Display for Moment {
-    fn fmt(&self, f: &mut fmt::Formatter<'_>) -> fmt::Result {
-        write!(f, "packet {} at ", self.packet)?;
-        write_word(f, &self.time)
+pub(crate) fn push_client(alloc: Global, text: &mut String, name: &ClientName) -> Result<(), AllocError> {
+    if name.address.is_empty() { text.push_str("unknown") } else { push_all_escaped(alloc, text, name.address.as_slice()) }
+}
+
+pub(crate) fn push_moment(alloc: Global, text: &mut String, moment: &Moment) -> Result<(), AllocError> {
+    let packet = moment.packet;
+    write!(text, "packet {packet} at ")?;
+    push_all_escaped(alloc, text, moment.time.as_slice())
+}
+
+fn push_with_moment(alloc: Global, text: &mut String, words: &str, moment: &Option<Moment>) -> Result<(), AllocError> {
+    text.push_str(words)?;
+    if let Some(moment) = moment {
+        text.push_str(", ")?;
+        push_moment(alloc, text, moment)?;
     }
+    Ok(())
+}
+
+fn push_judged(alloc: Global, text: &mut String, judged: &Judged) -> Result<(), AllocError> {
+    match judged {
+        Judged::NoClient => text.push_str("not judged, no client of it is"),
+        Judged::Safe => text.push_str("safe"),
+        Judged::Unsafe(moment) => push_with_moment(alloc, text, "unsafe", moment),
+        Judged::Granted(moment) => push_with_moment(alloc, text, "unsafe by the server's grants", moment),
+        Judged::Contradictory => text.push_str("not judged, what is shown can't have happened"),
+        Judged::TooMany => text.push_str("not judged, it can have happened in too many ways"),
+    }
+}
+
+fn push_where(alloc: Global, text: &mut String, place: &Option<FilePlace>) -> Result<(), AllocError> {
+    if let Some(place) = place {
+        text.push_str(" ")?;
+        push_place(alloc, text, place)?;
+    }
+    Ok(())
+}
+
+fn push_more(alloc: Global, text: &mut String, clients: &[ClientName]) -> Result<(), AllocError> {
+    for client in clients {
+        text.push_str(", ")?;
+        push_client(alloc, text, client)?;
+    }
+    Ok(())
+}
+
+/// Appends what is said of a file, in one line without its line feed: the file, what is decided of it with the packet, and a client
+/// for each lease.
+///
+/// # Errors
+///
+/// `AllocError` where there is no memory for it.
+pub fn push_file(alloc: Global, text: &mut String, file: &FileFinding) -> Result<(), AllocError> {
+    text.push_str("file")?;
+    push_where(alloc, text, &file.place)?;
+    text.push_str(": ")?;
+    push_judged(alloc, text, &file.judged)?;
+    push_more(alloc, text, file.clients.as_slice())
+}
+
+fn reason_text(reason: NotJudged) -> &'static str {
+    match reason {
+        NotJudged::Missing => "something of it is missing or can't be read",
+        NotJudged::Disputed => "it has one key for two files, or learns of a lease over several connections without an order",
+        NotJudged::Stranger => "a break under its key comes over a connection of which it isn't known whose it is",
+    }
+}
+
+fn push_since(alloc: Global, text: &mut String, since: &Option<Moment>) -> Result<(), AllocError> {
+    if let Some(moment) = since {
+        text.push_str(" after ")?;
+        push_moment(alloc, text, moment)?;
+    }
+    Ok(())
+}
+
+fn push_unjudged(alloc: Global, text: &mut String, name: &ClientName) -> Result<(), AllocError> {
+    text.push_str("client ")?;
+    push_client(alloc, text, name)?;
+    text.push_str(": not judged")
+}
+
+/// The same of a client that isn't judged: from where on, and why.
+///
+/// # Errors
+///
+/// `AllocError` where there is no memory for it.
+pub fn push_lost(alloc: Global, text: &mut String, finding: &ClientFinding) -> Result<(), AllocError> {
+    push_unjudged(alloc, text, &finding.client)?;
+    push_since(alloc, text, &finding.since)?;
+    text.push_str(", ")?;
+    text.push_str(reason_text(finding.reason))
+}
+
+fn push_at(alloc: Global, text: &mut String, moment: &Option<Moment>) -> Result<(), AllocError> {
+    if let Some(moment) = moment {
+        push_moment(alloc, text, moment)?;
+        text.push_str(", ")?;
+    }
+    Ok(())
+}
+
+/// The same of an epoch that doesn't follow on.
+///
+/// # Errors
+///
+/// `AllocError` where there is no memory for it.
+pub fn push_epoch(alloc: Global, text: &mut String, finding: &EpochFinding) -> Result<(), AllocError> {
+    text.push_str("client ")?;
+    push_client(alloc, text, &finding.client)?;
+    text.push_str(": ")?;
+    push_at(alloc, text, &finding.moment)?;
+    let (epoch, before) = (finding.epoch, finding.before);
+    write!(text, "epoch {epoch} follows {before}")
+}
+
+/// The same of what there is in a capture.
+///
+/// # Errors
+///
+/// `AllocError` where there is no memory for it.
+pub fn push_counts(text: &mut String, counts: Counts) -> Result<(), AllocError> {
+    let (connections, frames, unread) = (counts.connections, counts.frames, counts.unread);
+    write!(text, "{connections} connections, {frames} frames, {unread} of them unreadable")
 }
 
 // The name of a command, as MS-SMB2 2.2.1 has it.
@@ -96,84 +244,6 @@ impl fmt::Display for MessageName {
             MessagePart::Response => " response",
             MessagePart::Notification => " notification",
         })
-    }
-}
-
-impl fmt::Display for FilePlace {
-    fn fmt(&self, f: &mut fmt::Formatter<'_>) -> fmt::Result {
-        write_word(f, &self.server)?;
-        f.write_char(' ')?;
-        write_name(f, &self.path)?;
-        f.write_char('\\')?;
-        write_name(f, &self.name)
-    }
-}
-
-impl fmt::Display for ClientName {
-    fn fmt(&self, f: &mut fmt::Formatter<'_>) -> fmt::Result {
-        if self.address.is_empty() { f.write_str("unknown") } else { write_word(f, &self.address) }
-    }
-}
-
-impl fmt::Display for Judged {
-    fn fmt(&self, f: &mut fmt::Formatter<'_>) -> fmt::Result {
-        match self {
-            Judged::NoClient => f.write_str("not judged, no client of it is"),
-            Judged::Safe => f.write_str("safe"),
-            Judged::Unsafe(Some(moment)) => write!(f, "unsafe, {moment}"),
-            Judged::Unsafe(None) => f.write_str("unsafe"),
-            Judged::Granted(Some(moment)) => write!(f, "unsafe by the server's grants, {moment}"),
-            Judged::Granted(None) => f.write_str("unsafe by the server's grants"),
-            Judged::Contradictory => f.write_str("not judged, what is shown can't have happened"),
-            Judged::TooMany => f.write_str("not judged, it can have happened in too many ways"),
-        }
-    }
-}
-
-impl fmt::Display for FileFinding {
-    fn fmt(&self, f: &mut fmt::Formatter<'_>) -> fmt::Result {
-        match &self.place {
-            Some(place) => write!(f, "file {place}: {}", self.judged)?,
-            None => write!(f, "file: {}", self.judged)?,
-        }
-        for client in &self.clients {
-            write!(f, ", {client}")?;
-        }
-        Ok(())
-    }
-}
-
-fn reason(reason: NotJudged) -> &'static str {
-    match reason {
-        NotJudged::Missing => "something of it is missing or can't be read",
-        NotJudged::Disputed => "it has one key for two files, or learns of a lease over several connections without an order",
-        NotJudged::Stranger => "a break under its key comes over a connection of which it isn't known whose it is",
-    }
-}
-
-impl fmt::Display for ClientFinding {
-    fn fmt(&self, f: &mut fmt::Formatter<'_>) -> fmt::Result {
-        write!(f, "client {}: not judged", self.client)?;
-        if let Some(moment) = &self.since {
-            write!(f, " after {moment}")?;
-        }
-        write!(f, ", {}", reason(self.reason))
-    }
-}
-
-impl fmt::Display for EpochFinding {
-    fn fmt(&self, f: &mut fmt::Formatter<'_>) -> fmt::Result {
-        write!(f, "client {}: ", self.client)?;
-        if let Some(moment) = &self.moment {
-            write!(f, "{moment}, ")?;
-        }
-        write!(f, "epoch {} follows {}", self.epoch, self.before)
-    }
-}
-
-impl fmt::Display for Counts {
-    fn fmt(&self, f: &mut fmt::Formatter<'_>) -> fmt::Result {
-        write!(f, "{} connections, {} frames, {} of them unreadable", self.connections, self.frames, self.unread)
     }
 }
 

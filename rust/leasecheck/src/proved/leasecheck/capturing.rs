@@ -2,7 +2,10 @@
 
 use std::prelude::String;
 
-use crate::proved::capture_texts::{Capture, CaptureVerdict, RecordLine, Report, Side, notes_of, read_capture, record_of};
+use crate::proved::capture_texts::{
+    Capture, CaptureVerdict, ClientFinding, EpochFinding, FileFinding, RecordLine, Report, Side, notes_of, push_counts,
+    push_epoch, push_file, push_lost, read_capture, record_of,
+};
 use crate::proved::lease_texts::{TextFault, push_fact};
 use crate::proved::leasecheck::failure::Failure;
 use crate::proved::leasecheck::refusal::Refusal;
@@ -25,23 +28,26 @@ fn push_verdict(text: &mut String, verdict: CaptureVerdict) -> Result<(), AllocE
     }
 }
 
-fn push_files(text: &mut String, report: &Report) -> Result<(), AllocError> {
-    for file in &report.files {
-        writeln!(text, "{file}")?;
+fn push_files(alloc: Global, text: &mut String, files: &[FileFinding]) -> Result<(), AllocError> {
+    for file in files {
+        push_file(alloc, text, file)?;
+        text.push_str("\n")?;
     }
     Ok(())
 }
 
-fn push_clients(text: &mut String, report: &Report) -> Result<(), AllocError> {
-    for client in &report.clients {
-        writeln!(text, "{client}")?;
+fn push_clients(alloc: Global, text: &mut String, clients: &[ClientFinding]) -> Result<(), AllocError> {
+    for client in clients {
+        push_lost(alloc, text, client)?;
+        text.push_str("\n")?;
     }
     Ok(())
 }
 
-fn push_epochs(text: &mut String, report: &Report) -> Result<(), AllocError> {
-    for epoch in &report.epochs {
-        writeln!(text, "{epoch}")?;
+fn push_epochs(alloc: Global, text: &mut String, epochs: &[EpochFinding]) -> Result<(), AllocError> {
+    for epoch in epochs {
+        push_epoch(alloc, text, epoch)?;
+        text.push_str("\n")?;
     }
     Ok(())
 }
@@ -50,11 +56,11 @@ fn push_epochs(text: &mut String, report: &Report) -> Result<(), AllocError> {
 // there is in the capture.
 fn findings_of(alloc: Global, report: &Report) -> Result<String, AllocError> {
     let mut text = String::new(alloc);
-    push_files(&mut text, report)?;
-    push_clients(&mut text, report)?;
-    push_epochs(&mut text, report)?;
-    let counts = report.counts;
-    writeln!(&mut text, "{counts}")?;
+    push_files(alloc, &mut text, &report.files)?;
+    push_clients(alloc, &mut text, &report.clients)?;
+    push_epochs(alloc, &mut text, &report.epochs)?;
+    push_counts(&mut text, report.counts)?;
+    text.push_str("\n")?;
     Ok(text)
 }
 

@@ -4,13 +4,14 @@ use std::prelude::{String, Vec};
 
 use crate::proved::capture_texts::finding::{ClientFinding, EpochFinding, FileFinding, Report};
 use crate::proved::capture_texts::records::record::{RecordLine, push_remark};
+use crate::proved::capture_texts::texts::{push_counts, push_epoch, push_file, push_lost};
 use smblease::proved::lease_state::Memory;
 use std::alloc::Global;
 
 fn push_files(alloc: Global, lines: &mut Vec<RecordLine>, files: &[FileFinding]) -> Result<(), Memory> {
     for file in files {
         let mut remark = String::new(alloc);
-        write!(&mut remark, "{file}")?;
+        push_file(alloc, &mut remark, file)?;
         push_remark(lines, remark)?;
     }
     Ok(())
@@ -19,7 +20,7 @@ fn push_files(alloc: Global, lines: &mut Vec<RecordLine>, files: &[FileFinding])
 fn push_clients(alloc: Global, lines: &mut Vec<RecordLine>, clients: &[ClientFinding]) -> Result<(), Memory> {
     for client in clients {
         let mut remark = String::new(alloc);
-        write!(&mut remark, "{client}")?;
+        push_lost(alloc, &mut remark, client)?;
         push_remark(lines, remark)?;
     }
     Ok(())
@@ -28,7 +29,7 @@ fn push_clients(alloc: Global, lines: &mut Vec<RecordLine>, clients: &[ClientFin
 fn push_epochs(alloc: Global, lines: &mut Vec<RecordLine>, epochs: &[EpochFinding]) -> Result<(), Memory> {
     for epoch in epochs {
         let mut remark = String::new(alloc);
-        write!(&mut remark, "{epoch}")?;
+        push_epoch(alloc, &mut remark, epoch)?;
         push_remark(lines, remark)?;
     }
     Ok(())
@@ -46,7 +47,7 @@ pub fn notes_of(alloc: Global, report: &Report) -> Result<Vec<RecordLine>, Memor
     push_clients(alloc, &mut notes, report.clients.as_slice())?;
     push_epochs(alloc, &mut notes, report.epochs.as_slice())?;
     let mut counts = String::new(alloc);
-    write!(&mut counts, "{}", report.counts)?;
+    push_counts(&mut counts, report.counts)?;
     push_remark(&mut notes, counts)?;
     Ok(notes)
 }

@@ -7,6 +7,7 @@ use crate::proved::capture_texts::finding::{ClientName, FileFinding, Report};
 use crate::proved::capture_texts::line::Moment;
 use crate::proved::capture_texts::records::cast::{Cast, cast_of, count_wanted};
 use crate::proved::capture_texts::records::change::{Change, changes_of};
+use crate::proved::capture_texts::texts::{push_client, push_moment, push_place};
 use smblease::proved::lease_facts::Fact;
 use smblease::proved::lease_state::{Bytes, ClientNo, FileNo, LeaseState, Memory};
 use std::alloc::Global;
@@ -49,7 +50,8 @@ fn file_remark(alloc: Global, number: u8, file: Option<&FileFinding>) -> Result<
     let mut remark = String::new(alloc);
     write!(&mut remark, "file {number}")?;
     if let Some(place) = file.and_then(|file| file.place.as_ref()) {
-        write!(&mut remark, " is {place}")?;
+        remark.push_str(" is ")?;
+        push_place(alloc, &mut remark, place)?;
     }
     Ok(remark)
 }
@@ -58,14 +60,15 @@ fn client_remark(alloc: Global, number: u8, name: Option<&ClientName>) -> Result
     let mut remark = String::new(alloc);
     write!(&mut remark, "client {number}")?;
     if let Some(name) = name {
-        write!(&mut remark, " is {name}")?;
+        remark.push_str(" is ")?;
+        push_client(alloc, &mut remark, name)?;
     }
     Ok(remark)
 }
 
 // A moment with the names of its messages.
-fn push_moment(remark: &mut String, moment: &Moment) -> Result<(), Memory> {
-    write!(remark, "{moment}")?;
+fn push_named_moment(alloc: Global, remark: &mut String, moment: &Moment) -> Result<(), Memory> {
+    push_moment(alloc, remark, moment)?;
     for name in moment.messages.as_slice() {
         write!(remark, ", {name}")?;
     }
@@ -77,7 +80,7 @@ fn change_remark(alloc: Global, files: &[FileFinding], change: Change) -> Result
     let beliefs = files.get(change.finding).map(|file| file.beliefs.as_slice());
     let belief = beliefs.and_then(|beliefs| beliefs.get(change.belief));
     match belief.and_then(|belief| belief.moment.as_ref()) {
-        Some(moment) => push_moment(&mut remark, moment)?,
+        Some(moment) => push_named_moment(alloc, &mut remark, moment)?,
         None => remark.push_str("before all packets")?,
     }
     Ok(remark)
