@@ -22,13 +22,15 @@
 PREFIX ?= /usr/local
 BINDIR ?= $(PREFIX)/bin
 LIBDIR ?= $(PREFIX)/lib
+LIBEXECDIR ?= $(PREFIX)/libexec/smblease
 INCLUDEDIR ?= $(PREFIX)/include
 DATADIR ?= $(PREFIX)/share
 MANDIR ?= $(DATADIR)/man
 DOCDIR ?= $(DATADIR)/doc/smblease
 COMPLETIONDIR ?= $(DATADIR)/bash-completion/completions
 
-# The version stands in the header alone, and smblease.pc has the commit too. The soname changes where a program that was linked before could no longer run.
+# The version stands in the header alone; smblease.pc and the installed command leasecheck have the commit too. The soname changes where a program
+# that was linked before could no longer run.
 number = $(shell sed -n 's/^\#define SMBLEASE_VERSION_$(1) //p' include/smblease.h)
 VERSION := $(call number,MAJOR).$(call number,MINOR).$(call number,PATCH)
 SONAME := libsmblease.so.$(call number,MAJOR)
@@ -59,7 +61,10 @@ all: FORCE
 
 install: all
 	mkdir -p "$(DESTDIR)$(BINDIR)" "$(DESTDIR)$(LIBDIR)/pkgconfig" "$(DESTDIR)$(LIBDIR)/cmake/smblease" "$(DESTDIR)$(INCLUDEDIR)"
-	install -m 755 $(OUT)/leasecheck "$(DESTDIR)$(BINDIR)/leasecheck"
+	install -D -m 755 $(OUT)/leasecheck "$(DESTDIR)$(LIBEXECDIR)/leasecheck"
+	sed -e "s|@PROGRAM@|$$(realpath -m --relative-to="$(BINDIR)" "$(LIBEXECDIR)")/leasecheck|" -e "s|@COMMIT@|$$(tools/commit)|" tools/installed_program.in \
+	    > "$(DESTDIR)$(BINDIR)/leasecheck"
+	chmod 755 "$(DESTDIR)$(BINDIR)/leasecheck"
 	install -m 644 $(OUT)/libsmblease.a "$(DESTDIR)$(LIBDIR)/libsmblease.a"
 	install -m 755 $(OUT)/$(SHARED) "$(DESTDIR)$(LIBDIR)/$(SHARED)"
 	ln -sf $(SHARED) "$(DESTDIR)$(LIBDIR)/$(SONAME)"
@@ -81,7 +86,9 @@ install-python: install
 
 uninstall:
 	! command -v "$(PYTHON)" >/dev/null || $(PYTHON) tools/install_python --remove "$(PREFIX)" "$(DESTDIR)"
-	rm -f "$(DESTDIR)$(BINDIR)/leasecheck" "$(DESTDIR)$(LIBDIR)/pkgconfig/smblease.pc" "$(DESTDIR)$(COMPLETIONDIR)/leasecheck"
+	rm -f "$(DESTDIR)$(BINDIR)/leasecheck" "$(DESTDIR)$(LIBEXECDIR)/leasecheck" "$(DESTDIR)$(LIBDIR)/pkgconfig/smblease.pc" \
+	    "$(DESTDIR)$(COMPLETIONDIR)/leasecheck"
+	rmdir "$(DESTDIR)$(LIBEXECDIR)" 2>/dev/null || :
 	for page in $(MANUAL); do rm -f "$(DESTDIR)$(MANDIR)/$$page"; done
 	for file in $(CMAKE); do rm -f "$(DESTDIR)$(LIBDIR)/cmake/smblease/$$file"; done
 	rmdir "$(DESTDIR)$(LIBDIR)/cmake/smblease" 2>/dev/null || :

@@ -15,6 +15,8 @@ from typing import Any, Sequence
 from hatchling.builders.hooks.plugin.interface import BuildHookInterface
 
 LIBRARY, PROGRAM = "libsmblease.so", "leasecheck"
+# Where an installed wheel has the program, which the command of its name starts.
+PLACE = f"libexec/smblease/{PROGRAM}"
 # The versions of glibc whose symbols a file needs, as its table of names has them.
 GLIBC = re.compile(rb"\0GLIBC_2\.(\d+)(?:\.\d+)?(?=\0)")
 MACHINES = {62: "x86_64", 183: "aarch64"}
@@ -40,28 +42,37 @@ def printed_by(tool: Path) -> str:
 
 
 class Hook(BuildHookInterface[Any]):
-    _commit_file = ""
+    _made: list[str] = []
+
+    def _made_file(self, text: str, mode: int = 0o644) -> str:
+        """A file of this text, which is there until the wheel or sdist is made."""
+        descriptor, name = tempfile.mkstemp()
+        with open(descriptor, "w", encoding="utf-8") as file:
+            file.write(text)
+        os.chmod(name, mode)
+        self._made = [*self._made, name]
+        return name
 
     def initialize(self, version: str, build_data: dict[str, Any]) -> None:
         """`version` is what kind of wheel it is; an editable one leads to the repository, which has all of this."""
         if version == "editable":
             return
         tools = Path(self.root) / "tools"
+        commit = printed_by(tools / "commit")
         files = {}
         if self.target_name == "wheel":
             library, program = (Path(printed_by(tools / "current")) / name for name in (LIBRARY, PROGRAM))
             build_data["pure_python"] = False
             build_data["tag"] = f"py3-none-{platform_of([library, program])}"
-            scripts = f"{self.build_config.builder.project_id}.data/scripts"
-            files = {str(library): f"smblease/{LIBRARY}", str(program): f"{scripts}/{PROGRAM}"}
-        commit = printed_by(tools / "commit")
+            data = f"{self.build_config.builder.project_id}.data"
+            command = (tools / "installed_program.in").read_text(encoding="utf-8")
+            command = command.replace("@PROGRAM@", f"../{PLACE}").replace("@COMMIT@", commit)
+            files = {str(library): f"smblease/{LIBRARY}", str(program): f"{data}/data/{PLACE}",
+                     self._made_file(command, 0o755): f"{data}/scripts/{PROGRAM}"}
         if commit:
-            descriptor, self._commit_file = tempfile.mkstemp()
-            with open(descriptor, "w", encoding="utf-8") as file:
-                file.write(f"{commit}\n")
-            files[self._commit_file] = "smblease/COMMIT" if self.target_name == "wheel" else "COMMIT"
+            files[self._made_file(f"{commit}\n")] = "smblease/COMMIT" if self.target_name == "wheel" else "COMMIT"
         build_data["force_include"].update(files)
 
     def finalize(self, version: str, build_data: dict[str, Any], artifact_path: str) -> None:
-        if self._commit_file:
-            os.unlink(self._commit_file)
+        for name in self._made:
+            os.unlink(name)

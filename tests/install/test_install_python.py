@@ -10,7 +10,7 @@ import pytest
 from tests.c.building import Ended, made, run
 from tests.install.making import MARKS
 from tests.program.ran import ACKNOWLEDGMENT, BREAK
-from tests.program.test_version import said_by
+from tests.program.test_version import PROGRAM_SAYS, commit_line, said_by
 
 pytestmark = [*MARKS, pytest.mark.xdist_group("installed")]
 OWN = f"lib/python{sys.version_info.major}.{sys.version_info.minor}"
@@ -35,6 +35,7 @@ def test_all_is_there_and_goes_again(tmp_path: Path, prefix: str, packages: str)
     found = run(sys.executable, "-c", program, variables=variables).output.rstrip()
     assert found == str(top / "bin/leasecheck")
     assert run(found, "ack", BREAK) == Ended(0, f"{ACKNOWLEDGMENT}\n")
+    assert run(found, "--version") == Ended(0, PROGRAM_SAYS + commit_line())
     assert (top / "share/man/man1/smblease-run.1").exists() and (top / "share/bash-completion/completions/smblease-run").exists()
     assert run("make", "uninstall", *words).status == 0
     assert [it for it in tmp_path.rglob("*") if not it.is_dir()] == []

@@ -11,7 +11,7 @@ from tests import needs
 from tests.install.making import MARKS, environment, label, printed, pythons, ran
 from tests.paths import EXAMPLE, TOP
 from tests.program.ran import ACKNOWLEDGMENT, BREAK, run
-from tests.program.test_version import VERSION, said_by
+from tests.program.test_version import PROGRAM_SAYS, VERSION, commit_line, said_by
 
 pytestmark = [*MARKS, pytest.mark.long, pytest.mark.xdist_group("installed")]
 COMMANDS = ("run", "explore", "compare", "capture", "serve", "torture")
@@ -30,6 +30,14 @@ def programs_of_an_environment(request: pytest.FixtureRequest, tmp_path_factory:
 
 def test_program(programs: Path, tmp_path: Path) -> None:
     assert printed([programs / "leasecheck", "ack", BREAK], tmp_path) == f"{ACKNOWLEDGMENT}\n"
+
+
+def test_program_says_its_commit(programs: Path, tmp_path: Path) -> None:
+    """Also where it is started by a link."""
+    link = tmp_path / "link"
+    link.symlink_to(programs / "leasecheck")
+    for program in (programs / "leasecheck", link):
+        assert printed([program, "--version"], tmp_path) == PROGRAM_SAYS + commit_line()
 
 
 def test_library(programs: Path, tmp_path: Path) -> None:

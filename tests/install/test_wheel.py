@@ -57,9 +57,11 @@ def test_what_tools_current_finds_is_in_it(wheel: Path) -> None:
     program = Path(built_program())
     has = contents(wheel)
     assert has["smblease/libsmblease.so"] == (program.parent / "libsmblease.so").read_bytes()
-    assert has[f"smblease-{VERSION}.data/scripts/leasecheck"] == program.read_bytes()
+    place = f"smblease-{VERSION}.data/data/libexec/smblease/leasecheck"
+    assert has[place] == program.read_bytes()
     with zipfile.ZipFile(wheel) as opened:
-        assert opened.getinfo(f"smblease-{VERSION}.data/scripts/leasecheck").external_attr >> 16 & 0o111 == 0o111
+        for name in (place, f"smblease-{VERSION}.data/scripts/leasecheck"):
+            assert opened.getinfo(name).external_attr >> 16 & 0o111 == 0o111
 
 
 def test_all_of_the_package_is_in_it(wheel: Path) -> None:
