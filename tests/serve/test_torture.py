@@ -30,12 +30,12 @@ def test_rows_are_read_as_they_were_printed(tmp_path: Path) -> None:
 def test_the_table() -> None:
     """A suite that one server alone has is a row too."""
     assert table([("serve/run", ROWS), ("smbd", ROWS[:1])]).splitlines() == [
-        "| Suite | serve/run: passed | serve/run: failed | serve/run: skipped | smbd: passed | smbd: failed | smbd: skipped |",
-        "| --- | --- | --- | --- | --- | --- | --- |",
-        "| smb2 | 0 | 0 | 1 | 0 | 0 | 0 |",
-        "| smb2.ioctl | 1 | 0 | 0 | 0 | 0 | 0 |",
-        "| smb2.lease | 1 | 1 | 0 | 1 | 0 | 0 |",
-        "| in all | 2 | 1 | 1 | 1 | 0 | 0 |"]
+        "| passed/failed/skipped of | serve/run | smbd |",
+        "| --- | --- | --- |",
+        "| smb2 | 0/0/1 | 0/0/0 |",
+        "| smb2.ioctl | 1/0/0 | 0/0/0 |",
+        "| smb2.lease | 1/1/0 | 1/0/0 |",
+        "| in all | 2/1/1 | 1/0/0 |"]
 
 
 @needs.program("smbtorture")

@@ -46,14 +46,14 @@ def suite_of(name: str) -> str:
 
 
 def table(columns: Sequence[tuple[str, Iterable[Row]]]) -> str:
-    """In Markdown: of each server how many passed, failed and were skipped, by suite and in all."""
+    """In Markdown: of each server how many passed, failed and were skipped, as `22/1/0`, by suite and in all."""
     found = [(server, list(rows)) for server, rows in columns]
     suites = sorted({suite_of(row.name) for _, rows in found for row in rows})
-    heads = ["Suite", *(f"{server}: {kind.value}" for server, _ in found for kind in Kind)]
-    lines = [heads, ["---"] * len(heads)]
+    lines = [[f"{'/'.join(it.value for it in Kind)} of", *(server for server, _ in found)], ["---"] * (len(found) + 1)]
     lines += [[suite, *_counts(found, {suite})] for suite in suites] + [["in all", *_counts(found, set(suites))]]
     return "\n".join(f"| {' | '.join(it)} |" for it in lines)
 
 
 def _counts(found: Sequence[tuple[str, list[Row]]], suites: set[str]) -> list[str]:
-    return [str(sum(row.kind is kind and suite_of(row.name) in suites for row in rows)) for _, rows in found for kind in Kind]
+    chosen = [[row.kind for row in rows if suite_of(row.name) in suites] for _, rows in found]
+    return ["/".join(str(kinds.count(kind)) for kind in Kind) for kinds in chosen]
