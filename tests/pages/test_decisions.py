@@ -24,4 +24,4 @@ def test_named_decisions() -> None:
 
 def test_a_title_stands_for_one_entry() -> None:
     titles = titles_of("DECISIONS.md") + titles_of("DESIGN.md")
-    assert len(titles) > 90 and sorted(titles) == sorted(set(titles))
+    assert len(titles) > 60 and sorted(titles) == sorted(set(titles))
