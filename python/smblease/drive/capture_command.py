@@ -53,6 +53,8 @@ def parser() -> argparse.ArgumentParser:
                       help="where it was made; at a server, which is presumed, it only bounds when clients took messages")
     made.add_argument("--port", metavar="PORT", type=int, action="append", default=[],
                       help="a port on which SMB2 isn't found without that; may be given more than once")
+    made.add_argument("--ignore-case", action="store_true",
+                      help="names that differ in case alone are one, as servers mostly have it; they are told in upper case")
     made.add_argument("--session-key", metavar="ID:KEY", type=key_given, action="append", default=[],
                       help="decrypt this session: its SessionId, in the order of its bytes in a message, and its session key, in "
                            "16 and 32 hexadecimal digits; may be given more than once")
@@ -110,7 +112,7 @@ def _judge(arguments: argparse.Namespace) -> int:
 
 
 def _tell(arguments: argparse.Namespace, capture: Capture, overview: Overview, progress: Progress) -> int:
-    lines = lines_of(capture, overview)
+    lines = lines_of(capture, overview, arguments.ignore_case)
     if arguments.lines:
         progress.ends()
         sys.stdout.writelines(f"{line}\n" for line in lines)

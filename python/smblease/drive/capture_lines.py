@@ -6,7 +6,8 @@ from collections.abc import Iterator
 from dataclasses import dataclass, field
 
 from smblease.drive.capture_connections import Overview, overview_of
-from smblease.drive.packets import Capture, Packet
+from smblease.drive.capture_names import without_case
+from smblease.drive.packets import Capture, Frame, Packet
 
 # the bytes of a frame of which a part isn't there
 _NOT_THERE = "-"
@@ -30,6 +31,7 @@ class _Side:
 class _Connection:
     client: str
     server: str
+    ignores_case: bool
     near: _Side = field(default_factory=_Side)
     far: _Side = field(default_factory=_Side)
 
@@ -43,20 +45,24 @@ class _Connection:
         had = other.had(packet.acknowledged)
         for frame in packet.frames:
             sent.sends(packet.end)
-            data = _NOT_THERE if frame.is_cut else frame.digits
-            yield f"frame {place} {self.client} {self.server} {side} {had} {data}"
+            yield f"frame {place} {self.client} {self.server} {side} {had} {self._data(frame)}"
         # What was cut off comes after what is there.
         if packet.is_cut:
             yield f"gap {place}"
         if packet.ends:
             yield f"end {place}"
 
+    def _data(self, frame: Frame) -> str:
+        if frame.is_cut:
+            return _NOT_THERE
+        return without_case(frame.digits) if self.ignores_case else frame.digits
 
-def lines_of(capture: Capture, overview: Overview | None = None) -> Iterator[str]:
-    """The lines of those connections that have frames."""
+
+def lines_of(capture: Capture, overview: Overview | None = None, ignores_case: bool = False) -> Iterator[str]:
+    """The lines of those connections that have frames; where case is ignored, with all names in upper case."""
     known = overview or overview_of(capture.packets())
     servers = known.servers()
-    connections = {stream: _Connection(one.client, servers[stream]) for stream, one in known.connections.items()}
+    connections = {stream: _Connection(one.client, servers[stream], ignores_case) for stream, one in known.connections.items()}
     for packet in capture.packets():
         if packet.stream in connections:
             yield from connections[packet.stream].lines(packet)
