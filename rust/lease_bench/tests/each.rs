@@ -1,4 +1,5 @@
-//! A little of each kind of calls makes what it made on the proved code as the kit built it, and on plain Rust by hand.
+//! A little of each kind of calls makes what plain Rust by hand makes for the same words (`bench/*.rs`). Of captures there is no
+//! such program: their line is what the proved code made as the kit built it.
 
 use std::process::Command;
 
