@@ -16,6 +16,15 @@ def number(value: int, most: int, name: str) -> int:
     return found
 
 
+def are_longs(one: int, two: int, three: int) -> bool:
+    """Whether three arguments are numbers that fit, all at once."""
+    try:
+        every = one | two | three
+    except TypeError:
+        return False
+    return isinstance(every, int) and 0 <= every <= LONG
+
+
 def octets(value: Octets) -> bytes:
     # (`bytes` of a number would be so many zero bytes)
     return value if isinstance(value, bytes) else bytes(memoryview(value))

@@ -70,6 +70,17 @@ def _declared(place: str, library: ctypes.CDLL) -> ctypes.CDLL:
 library = _declared(*_opened())
 
 
+def in_words(name: str) -> Any:
+    """A function of the library that is given numbers which were found to fit, and addresses of structs. Where each of them takes
+    a word, as on all machines of 64 bits, ctypes passes them sooner than those of the function's own types."""
+    result, arguments = _functions.FUNCTIONS[name]
+    is_wide = ctypes.sizeof(ctypes.c_void_p) == ctypes.sizeof(ctypes.c_uint64)
+    function = library[f"smblease_{name}"]
+    function.restype = result
+    function.argtypes = [ctypes.c_void_p if is_wide or hasattr(it, "contents") else it for it in arguments]
+    return function
+
+
 def written(write: Any, message: ctypes.Structure, most: int) -> bytes:
     """What a writer of the library writes of a struct; it takes `most` bytes at most."""
     room = ctypes.create_string_buffer(most)

@@ -58,6 +58,10 @@ class CreateAsk:
         return written(library.smblease_write_create_ask, ask_struct(self), CREATE_ASK_MOST)
 
 
+# It asks for nothing.
+NO_ASK = CreateAsk()
+
+
 def ask_struct(ask: CreateAsk) -> structs.CreateAsk:
     """What is asked for, as a call is given it."""
     found = structs.CreateAsk(state=LeaseState(ask.state).value, durable=bool(ask.durable))
@@ -102,11 +106,17 @@ class CreateAnswer:
         >>> len(CreateAnswer(uuid.UUID(int=1), LeaseState.R, durable=True).write())
         88
         """
+        if self is NOTHING_GRANTED:
+            return b""
         answer = structs.CreateAnswer(state=LeaseState(self.state).value, breaking=bool(self.breaking),
                                       durable=bool(self.durable))
         if self.key is not None:
             answer.has_lease, answer.key = 1, key_field(self.key)
         return written(library.smblease_write_create_answer, answer, CREATE_ANSWER_MOST)
+
+
+# The answer to an ask that asks for nothing: no contexts.
+NOTHING_GRANTED = CreateAnswer()
 
 
 @dataclass(frozen=True)

@@ -10,14 +10,18 @@ import uuid
 from typing import Callable
 
 from smblease import _structs as structs
-from smblease._arguments import LONG, key_field, number
+from smblease._arguments import LONG, are_longs, key_field, number
 from smblease._handles import Outcome
-from smblease._library import library
-from smblease.contexts import CreateAsk, ask_struct
+from smblease._library import in_words, library
+from smblease.contexts import NO_ASK, CreateAsk, ask_struct
 from smblease.manager_decisions import Decision, Decisions, decision_of
 from smblease.manager_questions import ManagerQuestions, key_struct
 from smblease.messages import Acknowledgment
 from smblease.values import Access, LeaseState, Order, Rise, Rules, Share
+
+_create, _read, _write, _close = map(in_words, ("manager_create", "manager_read", "manager_write", "manager_close"))
+_decision_count, _read_decision = in_words("manager_decision_count"), in_words("manager_decision_at")
+_NOTHING_ASKED = ask_struct(NO_ASK)
 
 
 class Manager(ManagerQuestions):
@@ -42,37 +46,45 @@ class Manager(ManagerQuestions):
         if not isinstance(rules, Rules):
             raise TypeError(f"rules are needed, as Rules.of('by-key,whole'), and not {rules!r}")
         self._room = structs.ManagerDecision()
-        self._reference, self._room_reference = ctypes.byref(self._handle), ctypes.byref(self._room)
+        self._reference = ctypes.byref(self._handle)
+        self._place, self._room_place = ctypes.addressof(self._handle), ctypes.addressof(self._room)
         made = library.smblease_manager_new(self._reference, Order(rules.order).value, Rise(rules.rise).value,
                                             number(files, LONG, "files"))
         if made != Outcome.DONE:
             raise MemoryError("there is no memory for a manager")
 
     def _decided(self, call: Callable[..., int], *arguments: object) -> Decisions:
-        handle = self._reference
-        with self._lock:
-            outcome = call(handle, *arguments)
+        place, lock = self._place, self._lock
+        # (sooner than `with`)
+        lock.acquire()
+        try:
+            outcome = call(*arguments)
             if outcome:
                 self._check(outcome)
-            return tuple(map(self._decision_at, range(library.smblease_manager_decision_count(handle))))
+            count = _decision_count(place)
+            return (self._decision_at(0),) if count == 1 else tuple(map(self._decision_at, range(count)))
+        finally:
+            lock.release()
 
     def _decision_at(self, index: int) -> Decision:
         """A decision of the last call, which is read while the lock is held."""
-        outcome = library.smblease_manager_decision_at(self._reference, index, self._room_reference)
+        outcome = _read_decision(self._place, index, self._room_place)
         if outcome:
             self._check(outcome)
         return decision_of(self._room)
 
     def _received(self, call: Callable[..., int], client: int, tag: int, file_id: int, *more: int) -> Decisions:
+        if are_longs(client, tag, file_id):
+            return self._decided(call, self._place, client, tag, file_id, *more)
         names = number(client, LONG, "client"), number(tag, LONG, "tag"), number(file_id, LONG, "file_id")
-        return self._decided(call, *names, *more)
+        return self._decided(call, self._place, *names, *more)
 
     def join(self, client: int) -> None:
         """A client connects (3.3.5.1), which decides nothing.
 
         >>> Manager().join(1)
         """
-        self._decided(library.smblease_manager_join, number(client, LONG, "client"))
+        self._decided(library.smblease_manager_join, self._reference, number(client, LONG, "client"))
 
     def cut(self, client: int) -> Decisions:
         """A client's connection is lost (3.3.7.1). Nothing is decided of its requests that wait.
@@ -80,7 +92,7 @@ class Manager(ManagerQuestions):
         >>> Manager().cut(1)
         ()
         """
-        return self._decided(library.smblease_manager_cut, number(client, LONG, "client"))
+        return self._decided(library.smblease_manager_cut, self._reference, number(client, LONG, "client"))
 
     def run_out(self, timer: int) -> Decisions:
         """The timer of a break runs out (3.3.6.5), by the number that it was told with. A timer need not be stopped: where its
@@ -89,7 +101,7 @@ class Manager(ManagerQuestions):
         >>> Manager().run_out(1)
         ()
         """
-        return self._decided(library.smblease_manager_run_out, number(timer, LONG, "timer"))
+        return self._decided(library.smblease_manager_run_out, self._reference, number(timer, LONG, "timer"))
 
     def expire(self, client: int, key: uuid.UUID) -> Decisions:
         """The break of a client's lease is ended, whatever its timer says, as by an administrator.
@@ -97,7 +109,8 @@ class Manager(ManagerQuestions):
         >>> Manager().expire(1, uuid.UUID(int=1))
         ()
         """
-        return self._decided(library.smblease_manager_expire, number(client, LONG, "client"), ctypes.byref(key_struct(key)))
+        return self._decided(library.smblease_manager_expire, self._reference, number(client, LONG, "client"),
+                             ctypes.byref(key_struct(key)))
 
     def scavenge(self, file_id: int) -> Decisions:
         """The timer of a durable open runs out (3.3.6.2).
@@ -105,9 +118,9 @@ class Manager(ManagerQuestions):
         >>> Manager().scavenge(1)
         ()
         """
-        return self._decided(library.smblease_manager_scavenge, number(file_id, LONG, "file_id"))
+        return self._decided(library.smblease_manager_scavenge, self._reference, number(file_id, LONG, "file_id"))
 
-    def create(self, client: int, tag: int, file: int, access: Access, share: Share, ask: CreateAsk = CreateAsk()) -> Decisions:
+    def create(self, client: int, tag: int, file: int, access: Access, share: Share, ask: CreateAsk = NO_ASK) -> Decisions:
         """A client asks to open a file (3.3.5.9), or to connect a durable open again where `ask.reconnect` names one.
 
         >>> manager = Manager()
@@ -115,8 +128,13 @@ class Manager(ManagerQuestions):
         >>> manager.create(1, 10, 0, Access.READ, Share.READ)
         (Refused(client=1, tag=10, status=3221225524),)
         """
-        return self._decided(library.smblease_manager_create, number(client, LONG, "client"), number(tag, LONG, "tag"),
-                             number(file, LONG, "file"), Access(access).value, Share(share).value, ctypes.byref(ask_struct(ask)))
+        names = (client, tag, file) if are_longs(client, tag, file) else (
+            number(client, LONG, "client"), number(tag, LONG, "tag"), number(file, LONG, "file"))
+        if not (isinstance(access, Access) and isinstance(share, Share)):
+            access, share = Access(access), Share(share)
+        asked = _NOTHING_ASKED if ask is NO_ASK else ask_struct(ask)
+        # pylint: disable-next=protected-access  # (which is `value`, and sooner there)
+        return self._decided(_create, self._place, *names, access._value_, share._value_, ctypes.addressof(asked))
 
     def read(self, client: int, tag: int, file_id: int) -> Decisions:
         """A client asks to read by an open (3.3.5.12).
@@ -124,7 +142,7 @@ class Manager(ManagerQuestions):
         >>> Manager().read(1, 11, 1)
         ()
         """
-        return self._received(library.smblease_manager_read, client, tag, file_id)
+        return self._received(_read, client, tag, file_id)
 
     def write(self, client: int, tag: int, file_id: int, fits: bool = True) -> Decisions:
         """A client asks to write by an open (3.3.5.13). `fits`: it ends within what the host allows of a file.
@@ -132,7 +150,7 @@ class Manager(ManagerQuestions):
         >>> Manager().write(1, 12, 1)
         ()
         """
-        return self._received(library.smblease_manager_write, client, tag, file_id, bool(fits))
+        return self._received(_write, client, tag, file_id, bool(fits))
 
     def close_open(self, client: int, tag: int, file_id: int) -> Decisions:
         """A client asks to close an open (3.3.5.10).
@@ -140,7 +158,7 @@ class Manager(ManagerQuestions):
         >>> Manager().close_open(1, 13, 1)
         ()
         """
-        return self._received(library.smblease_manager_close, client, tag, file_id)
+        return self._received(_close, client, tag, file_id)
 
     def acknowledge(self, client: int, given: Acknowledgment) -> Decisions:
         """A client acknowledges the break of a lease (3.3.5.22.2).
@@ -149,7 +167,8 @@ class Manager(ManagerQuestions):
         ()
         """
         struct = structs.Acknowledgment(key_field(given.key), LeaseState(given.state).value)
-        return self._decided(library.smblease_manager_acknowledge, number(client, LONG, "client"), ctypes.byref(struct))
+        return self._decided(library.smblease_manager_acknowledge, self._reference, number(client, LONG, "client"),
+                             ctypes.byref(struct))
 
     def acknowledge_malformed(self, client: int) -> Decisions:
         """A client sends an acknowledgment that can't be read.
@@ -159,7 +178,7 @@ class Manager(ManagerQuestions):
         >>> manager.acknowledge_malformed(1)
         (NotAcknowledged(client=1, status=3221225485),)
         """
-        return self._decided(library.smblease_manager_acknowledge_malformed, number(client, LONG, "client"))
+        return self._decided(library.smblease_manager_acknowledge_malformed, self._reference, number(client, LONG, "client"))
 
     def withdraw(self, client: int, tag: int, file: int) -> Decisions:
         """A request that waits on the file is taken back (3.3.5.16).
@@ -167,5 +186,5 @@ class Manager(ManagerQuestions):
         >>> Manager().withdraw(1, 10, 5)
         ()
         """
-        return self._decided(library.smblease_manager_withdraw, number(client, LONG, "client"), number(tag, LONG, "tag"),
-                             number(file, LONG, "file"))
+        return self._decided(library.smblease_manager_withdraw, self._reference, number(client, LONG, "client"),
+                             number(tag, LONG, "tag"), number(file, LONG, "file"))

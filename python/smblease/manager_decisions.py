@@ -4,12 +4,13 @@ A request is named by its client and the tag under which it came.
 """
 from __future__ import annotations
 
+import struct
 from dataclasses import dataclass
 from typing import Any, Callable, Dict, Optional, Tuple, Union
 
 from smblease import _structs as structs
 from smblease._arguments import key_of
-from smblease.contexts import CreateAnswer
+from smblease.contexts import NOTHING_GRANTED, CreateAnswer
 from smblease.messages import Notification, Response
 from smblease.values import LeaseState
 
@@ -148,31 +149,39 @@ Decision = Union[Opened, GoesOn, Closed, Refused, Waits, Withdrawn, Breaks, Ackn
 Decisions = Tuple[Decision, ...]
 
 
-def _opened(has: Any) -> Opened:
-    key = key_of(has.key) if has.has_lease else None
-    answer = CreateAnswer(key, LeaseState(has.state), bool(has.breaking), bool(has.durable))
-    return Opened(int(has.client), int(has.tag), int(has.file_id), answer)
+# The fields of a struct of smblease_manager_decision, but for those that are reserved.
+_LAYOUT = struct.Struct("<QQQ16sLLLLLBBBBQ")
+_STATES = tuple(map(LeaseState, range(8)))
+_Fields = Tuple[Any, ...]
 
 
-def _breaks(has: Any) -> Breaks:
-    states = LeaseState(has.current_state), LeaseState(has.new_state)
-    return Breaks(int(has.client), Notification(key_of(has.key), *states, bool(has.ack_required)), int(has.number) or None)
+def _opened(has: _Fields) -> Opened:
+    client, tag, file_id, key, _, _, state, _, _, has_lease, breaking, durable, _, _ = has
+    if not has_lease and not state and not breaking and not durable:
+        return Opened(client, tag, file_id, NOTHING_GRANTED)
+    answer = CreateAnswer(key_of(key) if has_lease else None, _STATES[state], bool(breaking), bool(durable))
+    return Opened(client, tag, file_id, answer)
 
 
-def _tagged(kind: Callable[[int, int], Decision]) -> Callable[[Any], Decision]:
-    return lambda has: kind(int(has.client), int(has.tag))
+def _breaks(has: _Fields) -> Breaks:
+    client, _, _, key, _, _, _, current, new, _, _, _, ack_required, number = has
+    return Breaks(client, Notification(key_of(key), _STATES[current], _STATES[new], bool(ack_required)), number or None)
+
+
+def _acknowledged(has: _Fields) -> Acknowledged:
+    return Acknowledged(has[0], Response(key_of(has[3]), _STATES[has[6]]))
 
 
 # enum smblease_manager_decision_kind
-_KINDS: Dict[int, Callable[[Any], Decision]] = {
-    1: _opened, 2: _tagged(GoesOn), 3: _tagged(Closed), 5: _tagged(Waits), 6: _tagged(Withdrawn), 7: _breaks,
-    4: lambda has: Refused(int(has.client), int(has.tag), int(has.status)),
-    8: lambda has: Acknowledged(int(has.client), Response(key_of(has.key), LeaseState(has.state))),
-    9: lambda has: NotAcknowledged(int(has.client), int(has.status)),
-    10: lambda has: Ended(int(has.file_id)),
+_KINDS: Dict[int, Callable[[_Fields], Decision]] = {
+    1: _opened, 2: lambda has: GoesOn(has[0], has[1]), 3: lambda has: Closed(has[0], has[1]),
+    4: lambda has: Refused(has[0], has[1], has[5]), 5: lambda has: Waits(has[0], has[1]),
+    6: lambda has: Withdrawn(has[0], has[1]), 7: _breaks, 8: _acknowledged,
+    9: lambda has: NotAcknowledged(has[0], has[5]), 10: lambda has: Ended(has[2]),
 }
 
 
-def decision_of(has: structs.ManagerDecision) -> Decision:
+def decision_of(room: structs.ManagerDecision) -> Decision:
     """A decision, of the struct that holds it."""
-    return _KINDS[getattr(has, "kind")](has)
+    has = _LAYOUT.unpack_from(room)
+    return _KINDS[has[4]](has)

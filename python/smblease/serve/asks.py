@@ -6,9 +6,10 @@ from __future__ import annotations
 
 from collections.abc import Callable, Generator
 from dataclasses import dataclass
-from typing import Any, NamedTuple, Optional, TypeVar, Union
+from typing import Any, TypeVar, Union
 
 from smblease import Access, Acknowledgment, CreateAsk, Fault, Manager, Response, Share
+from smblease.contexts import NO_ASK
 from smblease.manager_decisions import Decisions, Opened
 from smblease.serve.node import Node
 from smblease.serve.opens import ManagerClient, Open
@@ -17,19 +18,23 @@ from smblease.serve.packets import Answer
 Found = TypeVar("Found")
 
 
-class Asked(NamedTuple):
+def nothing() -> None:
+    """The effect of what has none."""
+
+
+class Asked:
     """`call` gives it to a manager under a tag; `effect` is done where it goes on, at that place in the order of decisions. It
     may wait on the file, where it is about one."""
 
-    client: ManagerClient
-    node: Optional[Node]
-    call: Callable[[Manager, int], Decisions]
-    effect: Callable[[], object] = lambda: None
-    is_new_open: bool = False
-    # it changes the file as soon as it goes on
-    empties: bool = False
-    # the FileId of what it closes, which nobody takes back
-    closes: Optional[int] = None
+    __slots__ = ("client", "node", "call", "effect", "is_new_open", "empties", "closes")
+
+    def __init__(self, client: ManagerClient, node: Node | None, call: Callable[[Manager, int], Decisions],
+                 effect: Callable[[], object] = nothing, is_new_open: bool = False, empties: bool = False,
+                 closes: int | None = None) -> None:
+        """`empties`: it changes the file as soon as it goes on. `closes` is the FileId of what it closes, which nobody takes
+        back."""
+        self.client, self.node, self.call, self.effect = client, node, call, effect
+        self.is_new_open, self.empties, self.closes = is_new_open, empties, closes
 
     @property
     def file(self) -> int:
@@ -62,26 +67,36 @@ Handling = Waits[Answer]
 Steps = Waits[None]
 
 
-def opening(client: ManagerClient, node: Node, access: Access, share: Share, ask: CreateAsk = CreateAsk(),
-            empties: bool = False) -> Waits[Opened]:
-    opened = yield Asked(client, node, lambda manager, tag: manager.create(client.number, tag, node.number, access, share, ask),
-                         is_new_open=ask.reconnect is None, empties=empties)
+def to_open(client: ManagerClient, node: Node, access: Access, share: Share, ask: CreateAsk, empties: bool) -> Asked:
+    return Asked(client, node, lambda manager, tag: manager.create(client.number, tag, node.number, access, share, ask),
+                 nothing, ask.reconnect is None, empties)
+
+
+def to_read(client: ManagerClient, opened: Open, effect: Callable[[], bytes]) -> Asked:
+    return Asked(client, opened.node, lambda manager, tag: manager.read(client.number, tag, opened.file_id), effect)
+
+
+def to_write(client: ManagerClient, node: Node, file_id: int, effect: Callable[[], object], fits: bool = True) -> Asked:
+    """Asks for a change of the file, which `effect` makes."""
+    return Asked(client, node, lambda manager, tag: manager.write(client.number, tag, file_id, fits), effect)
+
+
+def to_close(client: ManagerClient, node: Node, file_id: int, effect: Callable[[], object] = nothing) -> Asked:
+    return Asked(client, node, lambda manager, tag: manager.close_open(client.number, tag, file_id), effect, closes=file_id)
+
+
+def opening(client: ManagerClient, node: Node, access: Access, share: Share, ask: CreateAsk = NO_ASK) -> Waits[Opened]:
+    opened = yield to_open(client, node, access, share, ask, False)
     assert isinstance(opened, Opened)
     return opened
 
 
-def reading(client: ManagerClient, opened: Open, effect: Callable[[], Found]) -> Waits[Found]:
-    found: Found = yield Asked(client, opened.node, lambda manager, tag: manager.read(client.number, tag, opened.file_id), effect)
-    return found
-
-
 def writing(client: ManagerClient, node: Node, file_id: int, effect: Callable[[], object], fits: bool = True) -> Steps:
-    """Asks for a change of the file, which `effect` makes."""
-    yield Asked(client, node, lambda manager, tag: manager.write(client.number, tag, file_id, fits), effect)
+    yield to_write(client, node, file_id, effect, fits)
 
 
-def closing(client: ManagerClient, node: Node, file_id: int, effect: Callable[[], object] = lambda: None) -> Steps:
-    yield Asked(client, node, lambda manager, tag: manager.close_open(client.number, tag, file_id), effect, closes=file_id)
+def closing(client: ManagerClient, node: Node, file_id: int) -> Steps:
+    yield to_close(client, node, file_id)
 
 
 def refused(client: ManagerClient, file_id: int, call: Callable[[Manager, int, int, int], Decisions]) -> Steps:

@@ -8,7 +8,7 @@ import time
 
 from smblease.serve.seeded_files import SeededFiles
 from smblease.serve.times import now, of_disk
-from smblease.serve.shown_files import ShownFiles
+from smblease.serve.shown_files import ON_DISK, ShownFiles
 
 # 2030-01-01, 00:00:00 UTC, in nanoseconds since 1970, so that what changes is later than what was there; and each look at the
 # clock finds it a millisecond on.
@@ -28,7 +28,7 @@ class Chance:
         return now()
 
     def files(self) -> ShownFiles:
-        return ShownFiles()
+        return ON_DISK
 
 
 class SeededChance(Chance):

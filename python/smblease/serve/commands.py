@@ -13,7 +13,7 @@ from smblease.serve.packets import Answer
 from smblease.serve.pipes import Pipes
 from smblease.serve.query_directory import QueryDirectory
 from smblease.serve.query_info import QueryInfo
-from smblease.serve.request import WITHOUT_TREE, Request
+from smblease.serve.request import Request
 from smblease.serve.sessions import Sessions
 from smblease.serve.set_info import SetInfo
 from smblease.serve.status_error import StatusError
@@ -29,7 +29,7 @@ class Commands:
     def __init__(self, server: Server) -> None:
         sessions, transfers = Sessions(server), Transfers(server)
         self._of_pipes = Pipes(server).handlers
-        self._handlers: dict[Command | None, Handler] = {
+        self.handlers: dict[Command | None, Handler] = {
             Command.NEGOTIATE: sessions.negotiate, Command.SESSION_SETUP: sessions.set_up, Command.LOGOFF: sessions.log_off,
             Command.TREE_CONNECT: sessions.connect_tree, Command.TREE_DISCONNECT: sessions.disconnect_tree,
             Command.ECHO: sessions.echo, Command.OPLOCK_BREAK: server.leases.acknowledge,
@@ -40,15 +40,7 @@ class Commands:
             Command.CHANGE_NOTIFY: QueryInfo.notify,
         }
 
-    def check_known(self, command: Command | None) -> None:
-        if command not in self._handlers:
-            raise StatusError(Status.INVALID_PARAMETER)
-
-    def handler(self, request: Request) -> Handler:
-        """What handles a request, whose command is known. One without the tree that it needs is refused."""
-        command = request.message.command
-        if command in WITHOUT_TREE or not request.tree.is_pipe:
-            return self._handlers[command]
+    def handler_of_pipes(self, command: Command | None) -> Handler:
         if command not in self._of_pipes:
             raise StatusError(Status.INVALID_DEVICE_REQUEST)
         return self._of_pipes[command]

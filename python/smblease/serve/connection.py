@@ -13,12 +13,11 @@ from smblease.serve.asks import Handling
 from smblease.serve.chains import Chain, Pending
 from smblease.serve.faults_on_demand import NOTIFICATION, REFUSES, Peer
 from smblease.serve.former_keys import FormerKeys
-from smblease.serve.manager_host import Task
 from smblease.serve.opens import ManagerClient
 from smblease.serve.outgoing import Outgoing
 from smblease.serve.packets import (LONGEST_FRAME, LONGEST_WITHOUT_SESSION, MOST_IN_FRAME, Answer, Credits, Frames,
                                     RequestMessage, Response, framed, split_compound)
-from smblease.serve.request import WITHOUT_SESSION, Request
+from smblease.serve.request import WITHOUT_SESSION, WITHOUT_TREE, Request
 from smblease.serve.session_wait import SessionWait
 from smblease.serve.sessions import ANY_DIALECT, Session, negotiated
 from smblease.serve.status_error import EXHAUSTED, StatusError, name_of
@@ -30,6 +29,7 @@ LOG = logging.getLogger("serve")
 MOST_PENDING = 512
 # Seconds after which others are served, between two requests.
 TURN = 0.002
+CANCEL = Command.CANCEL
 OLD_PROTOCOL = b"\xffSMB"
 OLD_NEGOTIATE = 0x72
 
@@ -58,6 +58,7 @@ class Connection(asyncio.Protocol):  # pylint: disable=too-many-instance-attribu
         self._is_due = False
         self.outgoing = Outgoing(self)
         self._pending: dict[int, Pending] = {}
+        self._says_all = LOG.isEnabledFor(logging.DEBUG)
 
     @property
     def unfinished(self) -> int:
@@ -74,15 +75,14 @@ class Connection(asyncio.Protocol):  # pylint: disable=too-many-instance-attribu
         client = self.client or (self.server.clients.of_guid(self.guid) if self.guid else None)
         return Peer(client.number if client else None, self.guid)
 
-    @property
     def has_turn(self) -> bool:
         """Whether more may be done now: the client reads what it is answered, and others don't wait for long."""
         return not self._is_unread and time.monotonic() < self._turn_ends
 
     @property
-    def tasks(self) -> list[Task]:
+    def tasks(self) -> list[Pending]:
         """Those of requests that aren't answered for good."""
-        return [it.task for it in self._pending.values() if it.task]
+        return list(self._pending.values())
 
     def connection_made(self, transport: asyncio.BaseTransport) -> None:
         assert isinstance(transport, asyncio.Transport)
@@ -122,7 +122,7 @@ class Connection(asyncio.Protocol):  # pylint: disable=too-many-instance-attribu
         self.outgoing.collects, self._turn_ends = True, time.monotonic() + TURN
         try:
             while self.is_open and not self._is_unread and self._take_next():
-                if not self.has_turn:
+                if self._is_unread or time.monotonic() >= self._turn_ends:
                     self._give_turn()
                     break
         except (Unreadable, *EXHAUSTED):
@@ -164,25 +164,30 @@ class Connection(asyncio.Protocol):  # pylint: disable=too-many-instance-attribu
         if frame[:4] == OLD_PROTOCOL:
             self._old_negotiate(frame)
         elif frame:
-            chains: list[Chain] = []
+            chain: Chain | None = None
             for message in split_compound(frame, MOST_IN_FRAME if self.is_negotiated else 1):
                 self._credit(message)
-                if message.command is Command.CANCEL:
+                if message.command is CANCEL:
                     self._cancel(message)
-                elif message.is_related and chains:
-                    chains[-1].add(message)
+                elif message.is_related and chain:
+                    chain.add(message)
                 else:
-                    chains.append(Chain(self, message))
-            self._chains.extend(chains)
-            if self._chains:
-                self._chains.popleft().go_on()
+                    if chain:
+                        self._chains.append(chain)
+                    chain = Chain(self, message)
+            if chain and self._chains:
+                self._chains.append(chain)
+                chain = None
+            if chain or self._chains:
+                (chain or self._chains.popleft()).go_on()
 
     def _credit(self, message: RequestMessage) -> None:
         """A request without its credits ends the connection (3.3.5.2.3), and so does one before NEGOTIATE."""
-        is_early = self.guid is None and message.command is not Command.NEGOTIATE
-        is_free = message.command is Command.CANCEL
-        if message.is_from_server or not is_free and (
-                is_early or not self._credits.take(message.identifier, max(1, message.charge))):
+        command = message.command
+        if message.flags & FROM_SERVER:
+            raise Unreadable
+        if command is not CANCEL and (self.guid is None and command is not Command.NEGOTIATE
+                                      or not self._credits.take(message.identifier, message.charge or 1)):
             raise Unreadable
 
     def _old_negotiate(self, frame: bytes) -> None:
@@ -193,45 +198,51 @@ class Connection(asyncio.Protocol):  # pylint: disable=too-many-instance-attribu
         answer = negotiated(self.server, ANY_DIALECT)
         self.outgoing.send(framed([Response(Command.NEGOTIATE, answer.status, 0, self._credits.grant(1), 0, 0, answer.body)]))
 
-    def begin(self, pending: Pending, failed: int | None) -> None:
-        message = pending.request.message
-        self._pending[message.identifier] = pending
-        handling = self._handle(pending.request, failed if message.is_related else None)
-        pending.task = Task(handling, lambda answer: self._answered(pending, answer))
-        if self.server.log:
-            self.server.log.begun(pending)
-        self.server.begun.append(pending)
-        self.server.host.start(pending.task)
-        self.server.send_interim_responses()
+    def begin(self, pending: Pending) -> None:
+        server = self.server
+        self._pending[pending.request.message.identifier] = pending
+        if server.log:
+            server.log.begun(pending)
+        server.begun.append(pending)
+        server.host.start(pending)
+        if pending.is_over and server.begun == [pending] and not server.script:
+            server.begun.clear()
+        else:
+            server.send_interim_responses()
 
-    def _handle(self, request: Request, failed: int | None) -> Handling:
-        """`failed` is what became of the create that the request is related to."""
+    def handle(self, request: Request, failed: int | None) -> Answer | Handling:
+        """The answer to a request, or what handles it. `failed` is what became of the create that it is related to."""
         if failed:
             raise StatusError(failed)
-        message = request.message
-        self.server.commands.check_known(message.command)
+        server, message = self.server, request.message
+        command = message.command
+        handler = server.commands.handlers.get(command)
+        if handler is None:
+            raise StatusError(Status.INVALID_PARAMETER)
         if len(self._pending) > MOST_PENDING:
             raise StatusError(Status.INSUFFICIENT_RESOURCES)
-        if message.command not in WITHOUT_SESSION:
-            request.session.check_signature(message)
-        self._check_refusal(request)
-        handler = self.server.commands.handler(request)
-        message.check_size()
-        message.check_charge()
-        handled = handler(request)
-        return handled if isinstance(handled, Answer) else (yield from handled)
+        if command not in WITHOUT_SESSION:
+            session = request.enter_session()
+            if session.signs or message.is_signed:
+                session.check_signature(message)
+        if server.faults.waiting:
+            self._check_refusal(request)
+        if command not in WITHOUT_TREE and request.enter_tree().is_pipe:
+            handler = server.commands.handler_of_pipes(command)
+        message.check_form()
+        return handler(request)
 
     def _check_refusal(self, request: Request) -> None:
         """Somebody may want it to be refused."""
-        fault = self.server.faults.take(REFUSES, request.message.name, self.peer) if self.server.faults else None
+        fault = self.server.faults.take(REFUSES, request.message.name, self.peer)
         if fault:
             request.fault = fault.action
             raise StatusError(fault.status)
 
-    def _answered(self, pending: Pending, answer: Answer) -> None:
+    def answered(self, pending: Pending, answer: Answer) -> None:
         message = pending.request.message
         self._pending.pop(message.identifier, None)
-        if LOG.isEnabledFor(logging.DEBUG):
+        if self._says_all:
             LOG.debug("client %s: %s %d: %s", self.client.number if self.client else "-", message.name, message.identifier,
                       name_of(answer.status))
         pending.is_answered = True
@@ -245,7 +256,7 @@ class Connection(asyncio.Protocol):  # pylint: disable=too-many-instance-attribu
         key = answer.key or (self._key_of(session, message) if message.is_signed else None)
         granted = self._credits.grant(message.credits_asked) if pending.async_id is None else 0
         flags = FROM_SERVER | (message.flags & 4)
-        return Response(message.number(12, 2), answer.status, message.identifier, granted, session, tree, answer.body,
+        return Response(message.code, answer.status, message.identifier, granted, session, tree, answer.body,
                         answer.data, message.charge, flags, pending.async_id, key)
 
     def _key_of(self, session: int, message: RequestMessage) -> bytes | None:
@@ -279,8 +290,8 @@ class Connection(asyncio.Protocol):  # pylint: disable=too-many-instance-attribu
                 session.check_signature(message)
         except StatusError:
             return
-        if found and found.task:
-            self.server.host.withdraw(found.task)
+        if found:
+            self.server.host.withdraw(found)
             self.server.settle()
 
     def notify(self, body: bytes) -> None:

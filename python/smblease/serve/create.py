@@ -6,8 +6,8 @@ import struct
 from smblease import Access, Context, CreateAnswer, CreateAsk, LeaseState, Share, Status, append_context
 from smblease.drive.headers import HEADER
 from smblease.manager_decisions import Opened
-from smblease.serve.access import ALL_ACCESS, is_of_attributes, is_stat, reads, writes
-from smblease.serve.asks import Handling, Steps, Waits, opening
+from smblease.serve.access import ALL_ACCESS, READING, SHARE_READ, WRITING, is_of_attributes, is_stat, writes
+from smblease.serve.asks import Handling, Steps, Waits, opening, to_open
 from smblease.serve.attributes import attributes_of
 from smblease.serve.create_parameters import (ALLOCATION, CREATE, CREATED, DELETE_ON_CLOSE, DIRECTORY_FILE, MAKING, MOST_ACCESS,
                                               NON_DIRECTORY_FILE, ON_DISK, OPENED, OVERWRITE, OVERWRITE_IF, OVERWRITTEN, RWH,
@@ -22,6 +22,10 @@ from smblease.serve.resizing import resizing
 from smblease.serve.status_error import StatusError
 
 MOST_OPENS = 16384
+SUCCESS = Status.SUCCESS
+ACTIONS = {SUPERSEDE: SUPERSEDED, OVERWRITE: OVERWRITTEN, OVERWRITE_IF: OVERWRITTEN}
+# An answer up to its contexts.
+DONE = struct.Struct("<HBBL52s4xQQLL")
 
 
 class Vanished(Exception):
@@ -36,13 +40,11 @@ class Create(Handlers):
         check(wanted, self._server.settings.limit)
         if len(self._server.opens) >= MOST_OPENS:
             raise StatusError(Status.INSUFFICIENT_RESOURCES)
-        answer: Answer | None = None
-        while answer is None:
+        while True:
             try:
-                answer = yield from self._once(request, wanted)
+                return (yield from self._once(request, wanted))
             except Vanished:
                 continue
-        return answer
 
     def _once(self, request: Request, wanted: CreateParameters) -> Handling:
         names = self._server.names
@@ -55,10 +57,12 @@ class Create(Handlers):
             raise StatusError(Status.FILE_IS_A_DIRECTORY)
         node = names.hold(node) if node else names.make(wanted.path, is_folder, bool(wanted.attributes & READ_ONLY))
         try:
-            self._check_attributes(wanted, node, action)
+            if action == CREATED or wanted.empties:
+                self._check_attributes(wanted, node, action)
             if is_folder:
                 return self._answer(wanted, self._folder(request, wanted, node), action, b"")
-            self._server.record.start(node)
+            if self._server.record.is_kept:
+                self._server.record.start(node)
             opened, contexts = yield from self._file(request, wanted, node, action)
             return self._answer(wanted, opened, action, contexts)
         except (StatusError, OSError):
@@ -66,7 +70,10 @@ class Create(Handlers):
                 names.remove(node)
             raise
         finally:
-            names.release(node)
+            if node.users > 1:
+                node.users -= 1
+            else:
+                names.release(node)
 
     @staticmethod
     def _check_attributes(wanted: CreateParameters, node: Node, action: int) -> None:
@@ -88,13 +95,18 @@ class Create(Handlers):
             raise StatusError(Status.DELETE_PENDING)
         if wanted.disposition == CREATE:
             raise StatusError(Status.OBJECT_NAME_COLLISION)
-        if node.is_read_only and (writes(wanted.access) or wanted.empties):
-            raise StatusError(Status.ACCESS_DENIED)
-        if node.is_read_only and wanted.options & DELETE_ON_CLOSE:
-            raise StatusError(Status.CANNOT_DELETE)
+        if node.is_read_only:
+            self._check_read_only(wanted)
         if wanted.options & DELETE_ON_CLOSE and not self._server.names.may_remove(node):
             raise StatusError(Status.ACCESS_DENIED)
-        return {SUPERSEDE: SUPERSEDED, OVERWRITE: OVERWRITTEN, OVERWRITE_IF: OVERWRITTEN}.get(wanted.disposition, OPENED)
+        return ACTIONS.get(wanted.disposition, OPENED)
+
+    @staticmethod
+    def _check_read_only(wanted: CreateParameters) -> None:
+        if writes(wanted.access) or wanted.empties:
+            raise StatusError(Status.ACCESS_DENIED)
+        if wanted.options & DELETE_ON_CLOSE:
+            raise StatusError(Status.CANNOT_DELETE)
 
     @staticmethod
     def _check_folder(request: Request, wanted: CreateParameters, node: Node | None) -> None:
@@ -114,26 +126,33 @@ class Create(Handlers):
 
     def _file(self, request: Request, wanted: CreateParameters, node: Node, action: int) -> Waits[tuple[Open, bytes]]:
         """An open of a file, and the contexts of its reply."""
-        if conflicts(wanted, node.opens):
+        server, access = self._server, wanted.access
+        # (each open holds the file, as this create does)
+        if node.users > 1 and conflicts(wanted, node.opens):
             yield from self._resolve_conflicts(request, wanted, node)
-        if writes(wanted.access) or wanted.empties:
-            self._server.names.make_writable(node)
-        if not (reads(wanted.access) or writes(wanted.access) or wanted.empties) and (
-                wanted.level == NO_LEVEL or is_of_attributes(wanted.access)
-                and not self._server.looking.may_cache(node, request.client, wanted.key)):
+        changes, has_data = access & WRITING or wanted.empties, access & READING
+        if changes and not node.is_writable:
+            server.names.make_writable(node)
+        if not changes and not has_data and (wanted.level == NO_LEVEL or is_of_attributes(access)
+                                             and not server.looking.may_cache(node, request.client, wanted.key)):
             return (yield from self._file_without_data(request, wanted, node)), b""
         client, ask = self._manager_client(request, wanted, node)
-        hides = self._server.looking.hides(node, wanted.share)
+        hides = not wanted.share & SHARE_READ and server.looking.hides(node, wanted.share)
         try:
-            decided = yield from opening(client, node, *wanted.rights_beside(hides), ask, wanted.empties)
-            yield from self._refuse_late(request, client, node, decided)
-            yield from self._refuse_unshared(wanted, hides, client, node, decided)
+            decided = yield to_open(client, node, *wanted.rights_beside(hides), ask, wanted.empties)
+            if not request.has_tree():
+                yield from self._refuse_late(request, client, node, decided)
+            # (what the shell guards may have been opened while it waited)
+            if node.users > 1 and (conflicts(wanted, node.opens) or hides and node.opens.reading):
+                yield from server.close_in_manager(client, node, decided.file_id)
+                raise StatusError(Status.SHARING_VIOLATION)
         except StatusError:
             if client.guid is None:
-                self._server.free(client)
+                server.free(client)
             raise
         opened = self._granted(request, wanted, node, client, decided, hides)
-        yield from self._after_grant(request, wanted, opened, action)
+        if node.is_gone or node.is_deleting or wanted.empties or opened.deletes:
+            yield from self._after_grant(request, wanted, opened, action)
         return opened, decided.answer.write() if not client.open else self._oplock_contexts(opened)
 
     def _file_without_data(self, request: Request, wanted: CreateParameters, node: Node) -> Waits[Open]:
@@ -166,13 +185,6 @@ class Create(Handlers):
         except StatusError:
             yield from self._server.close_in_manager(client, node, decided.file_id)
             raise
-
-    def _refuse_unshared(self, wanted: CreateParameters, hides: bool, client: ManagerClient, node: Node,
-                         decided: Opened) -> Steps:
-        """What the shell guards may have been opened while it waited."""
-        if conflicts(wanted, node.opens) or hides and node.opens.reading:
-            yield from self._server.close_in_manager(client, node, decided.file_id)
-            raise StatusError(Status.SHARING_VIOLATION)
 
     def _break_for_deletion(self, request: Request, opened: Open) -> Steps:
         """Who deletes at its close has all others give up handles first."""
@@ -210,16 +222,18 @@ class Create(Handlers):
         """The open that the manager made."""
         opened = self._new(request, wanted, node, decided.file_id)
         opened.client, opened.is_durable = client, decided.answer.durable
-        opened.is_lent = wanted.empties or not (reads(wanted.access) or writes(wanted.access))
+        opened.is_lent = wanted.empties or not wanted.access & (READING | WRITING)
         opened.hides_reading = hides
         client.opens += 1
         if client.guid is None:
             client.open = opened
-        if decided.answer.key:
-            opened.key = decided.answer.key
+        key = decided.answer.key
+        if key:
+            opened.key = key
             opened.level = LEASE if client.guid else level_of(wanted.level, decided.answer.state)
         self._keep(opened)
-        self._server.leases.granted(client, opened, decided.answer)
+        if key:
+            self._server.leases.granted(client, opened, decided.answer)
         return opened
 
     def _kept(self, request: Request, wanted: CreateParameters, node: Node) -> Open:
@@ -228,13 +242,15 @@ class Create(Handlers):
 
     @staticmethod
     def _new(request: Request, wanted: CreateParameters, node: Node, file_id: int) -> Open:
-        session = request.session
-        return Open(file_id, node, wanted.access, wanted.share, request.connection, session, request.tree,
-                    deletes=bool(wanted.options & DELETE_ON_CLOSE), owner=session.owner,
-                    writes_through=bool(wanted.options & WRITE_THROUGH))
+        session = request.session_now()
+        opened = Open(file_id, node, wanted.access, wanted.share, session, request.tree_of(session))
+        opened.deletes = bool(wanted.options & DELETE_ON_CLOSE)
+        opened.writes_through = bool(wanted.options & WRITE_THROUGH)
+        return opened
 
     def _keep(self, opened: Open) -> Open:
-        self._server.names.hold(opened.node)
+        # (the create holds it too)
+        opened.node.users += 1
         opened.node.opens.add(opened)
         self._server.opens[opened.file_id] = opened
         return opened
@@ -295,11 +311,11 @@ class Create(Handlers):
             self._server.names.set_read_only(node, bool(wanted.attributes & READ_ONLY))
         if ALLOCATION in wanted.others and not node.is_folder and action != OPENED:
             node.allocated = wanted.allocation
-        found = node.stat
+        found = node.shown_stat()
         if MOST_ACCESS in wanted.others:
             contexts = append_context(contexts, Context(MOST_ACCESS, struct.pack("<LL", 0, ALL_ACCESS)))
         if ON_DISK in wanted.others:
             contexts = append_context(contexts, Context(ON_DISK, struct.pack("<QQ16s", found.st_ino, found.st_dev, b"")))
-        head = struct.pack("<HBBL", 89, opened.level, 0, action) + attributes_of(found, node.kept, node.allocated)
-        tail = struct.pack("<LQQLL", 0, opened.file_id, opened.file_id, HEADER + 88 if contexts else 0, len(contexts))
-        return Answer(Status.SUCCESS, head + tail + contexts, opened=opened.file_id)
+        body = DONE.pack(89, opened.level, 0, action, attributes_of(found, node.kept, node.allocated), opened.file_id,
+                         opened.file_id, HEADER + 88 if contexts else 0, len(contexts))
+        return Answer(SUCCESS, body + contexts, opened=opened.file_id)

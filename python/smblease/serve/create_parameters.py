@@ -7,17 +7,18 @@ from dataclasses import dataclass, replace
 from uuid import UUID
 
 from smblease import Access, CreateAsk, Fault, LeaseState, Share, Status, each_context
+from smblease.contexts import NO_ASK
 from smblease.drive.headers import HEADER, Unreadable
-from smblease.serve.access import DELETE, SHARE_DELETE, counts, reads, specific, writes
+from smblease.serve.access import COUNTING, DELETE, READING, SHARE_DELETE, reads, specific, writes
 from smblease.serve.kept_attributes import ARCHIVE
-from smblease.serve.names import path_of, text_of
+from smblease.serve.names import path_on_wire
 from smblease.serve.opens import BATCH, EXCLUSIVE, LEASE, LEVEL_II, NO_LEVEL
 from smblease.serve.opens_of_file import OpensOfFile
 from smblease.serve.packets import RequestMessage
 from smblease.serve.status_error import StatusError
 
-# Level and impersonation, access, attributes, share, disposition and options, and where the contexts are (2.2.13).
-FIXED = struct.Struct("<3xBL16xLLLLL4xLL")
+# Level and impersonation, access, attributes, share, disposition and options, and where name and contexts are (2.2.13).
+FIXED = struct.Struct("<3xBL16xLLLLLHHLL")
 SUPERSEDE, OPEN, CREATE, OPEN_IF, OVERWRITE, OVERWRITE_IF = range(6)
 MAKING = {SUPERSEDE, CREATE, OPEN_IF, OVERWRITE_IF}
 EMPTYING = {SUPERSEDE, OVERWRITE, OVERWRITE_IF}
@@ -28,10 +29,12 @@ MOST_ACCESS, ON_DISK, ALLOCATION = b"MxAc", b"QFid", b"AlSi"
 # A client that knows durable handles of version 2 may send only that when it connects one of version 1 again.
 RECONNECT_2 = b"DH2C"
 RWH = LeaseState.of("RWH")
+# Access and share as the manager has them, by their numbers. An open that neither reads nor writes reads.
+ACCESSES, SHARES = (Access.READ, *Access), tuple(Share)
 OPLOCK_STATES = {NO_LEVEL: LeaseState.NONE, LEVEL_II: LeaseState.R, EXCLUSIVE: LeaseState.of("RW"), BATCH: RWH}
 
 
-@dataclass(frozen=True)
+@dataclass(eq=False)
 class CreateParameters:
     path: str
     access: int
@@ -44,6 +47,8 @@ class CreateParameters:
     ask: CreateAsk
     # the other contexts by their names
     others: dict[bytes, bytes]
+    # whether the file is empty after it
+    empties: bool
 
     @property
     def key(self) -> UUID | None:
@@ -58,21 +63,19 @@ class CreateParameters:
         return self.attributes if is_folder else self.attributes | ARCHIVE
 
     @property
-    def empties(self) -> bool:
-        return self.disposition in EMPTYING
-
-    @property
     def rights(self) -> tuple[Access, Share]:
         return self.rights_beside(False)
 
     def rights_beside(self, hides_reading: bool) -> tuple[Access, Share]:
         """Access and share as the manager has them. Who empties a file writes it; who holds a lease alone reads."""
         access = reads(self.access) + 2 * (writes(self.access) or self.empties)
-        return Access(access or 1), Share(self.share & 3 | hides_reading) if access else Share.READ_WRITE
+        return ACCESSES[access], SHARES[self.share & 3 | hides_reading] if access else Share.READ_WRITE
 
     def lease_ask(self, has_oplock: bool) -> CreateAsk:
         """What is asked for as it came, but for a lease that the level doesn't ask for; and for handles, where another open has
         an oplock."""
+        if self.ask is NO_ASK:
+            return NO_ASK
         if self.level != LEASE and self.ask.key is not None:
             return CreateAsk(durable=self.ask.durable, reconnect=self.ask.reconnect)
         if has_oplock and LeaseState.H in self.ask.state:
@@ -83,10 +86,12 @@ class CreateParameters:
 def read_parameters(message: RequestMessage) -> CreateParameters:
     if len(message.data) < HEADER + FIXED.size:
         raise Unreadable
-    level, impersonation, access, attributes, share, disposition, options, place, length = FIXED.unpack_from(message.data, HEADER)
-    ask, others = _contexts(message.part(place, length)) if length else (CreateAsk(), {})
-    path = path_of(text_of(message.buffer(HEADER + 44, message.number(HEADER + 46, 2))))
-    return CreateParameters(path, specific(access), share, disposition, options, attributes, level, impersonation, ask, others)
+    (level, impersonation, access, attributes, share, disposition, options, name, name_length, place, length
+     ) = FIXED.unpack_from(message.data, HEADER)
+    ask, others = _contexts(message.part(place, length)) if length else (NO_ASK, {})
+    path = path_on_wire(message.part(name, name_length)) if name_length else ""
+    return CreateParameters(path, specific(access), share, disposition, options, attributes, level, impersonation, ask, others,
+                            disposition in EMPTYING)
 
 
 def _contexts(text: bytes) -> tuple[CreateAsk, dict[bytes, bytes]]:
@@ -105,7 +110,9 @@ def _contexts(text: bytes) -> tuple[CreateAsk, dict[bytes, bytes]]:
 
 def check(wanted: CreateParameters, limit: int) -> None:
     """What a create that reconnects isn't asked for."""
-    if wanted.impersonation > 3 or wanted.disposition > OVERWRITE_IF or wanted.share > 7 or wanted.allocation > limit:
+    if wanted.impersonation > 3 or wanted.disposition > OVERWRITE_IF or wanted.share > 7:
+        raise StatusError(Status.INVALID_PARAMETER)
+    if ALLOCATION in wanted.others and wanted.allocation > limit:
         raise StatusError(Status.INVALID_PARAMETER)
     if not wanted.access or wanted.options & DELETE_ON_CLOSE and not wanted.access & DELETE:
         raise StatusError(Status.ACCESS_DENIED)
@@ -114,9 +121,10 @@ def check(wanted: CreateParameters, limit: int) -> None:
 def conflicts(wanted: CreateParameters, others: OpensOfFile) -> bool:
     """Whether one deletes and another doesn't share that; what is read and written is shared by the manager's rules, unless the
     manager wasn't told of it."""
-    if not counts(wanted.access):
+    access = wanted.access
+    if not access & COUNTING:
         return False
-    return bool(others.hiding and reads(wanted.access) or others.without_deletion and wanted.access & DELETE
+    return bool(others.hiding and access & READING or others.without_deletion and access & DELETE
                 or others.deleting and not wanted.share & SHARE_DELETE)
 
 

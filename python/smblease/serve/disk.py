@@ -13,13 +13,15 @@ from smblease.serve.folder_names import FOLDER, FolderNames
 from smblease.serve.names import joined, split
 
 PLACE = os.O_PATH | os.O_DIRECTORY | os.O_NOFOLLOW | os.O_CLOEXEC
+# Which of the bits of a mode say what kind of file it is, and the kinds that are served.
+KIND, SERVED = 0o170000, (stat.S_IFREG, stat.S_IFDIR)
 # (a pipe that stands in a file's place isn't waited for)
 FILE = os.O_NOFOLLOW | os.O_NONBLOCK | os.O_CLOEXEC
 READ_ONLY_MODE, MODE = 0o444, 0o666
 NOT_WRITABLE = {errno.EACCES, errno.EPERM, errno.EROFS, errno.ETXTBSY}
 
 
-@dataclass(frozen=True)
+@dataclass(eq=False)
 class Located:
     """What stands on disk at a path, whose names are as they are there."""
 
@@ -33,7 +35,7 @@ class Located:
 
 def is_served(found: os.stat_result) -> bool:
     """Links, pipes and devices aren't."""
-    return stat.S_ISREG(found.st_mode) or stat.S_ISDIR(found.st_mode)
+    return found.st_mode & KIND in SERVED
 
 
 class Disk:
@@ -60,10 +62,18 @@ class Disk:
 
     def locate(self, path: str) -> Located | None:
         """What a client means by a path. Case matters where a name is there in just this form."""
+        if not path:
+            return Located(path, os.fstat(self._root))
+        if "\\" in path:
+            return self._locate_below(path)
+        looked_up = self._looked_up(self._root, path)
+        return Located(*looked_up) if looked_up else None
+
+    def _locate_below(self, path: str) -> Located | None:
         found, exact = os.fstat(self._root), ""
         folder = os.dup(self._root)
         try:
-            for place, part in enumerate(path.split("\\") if path else ()):
+            for place, part in enumerate(path.split("\\")):
                 if place:
                     folder = _below(folder, split(exact)[1])
                 looked_up = self._looked_up(folder, part) if stat.S_ISDIR(found.st_mode) else None
@@ -94,15 +104,12 @@ class Disk:
             return os.open(".", FOLDER, dir_fd=place)
 
     def open_file(self, path: str) -> tuple[int, bool]:
-        """A descriptor, and whether it can be written by."""
+        """A descriptor, and whether it can be written by. What it leads to may be another file than the one that was located."""
+        if "\\" not in path:
+            return _open_file(self._root, path)
         folder, name = split(path)
         with self.within(folder) as place:
-            try:
-                return _plain(os.open(name.encode(), FILE | os.O_RDWR, dir_fd=place)), True
-            except OSError as fault:
-                if fault.errno not in NOT_WRITABLE:
-                    raise
-            return _plain(os.open(name.encode(), FILE | os.O_RDONLY, dir_fd=place)), False
+            return _open_file(place, name)
 
     def make_file(self, path: str, is_read_only: bool) -> int:
         folder, name = split(path)
@@ -165,7 +172,17 @@ def stat_in(folder: int, name: str) -> os.stat_result | None:
         found = os.stat(name.encode(), dir_fd=folder, follow_symlinks=False)
     except (FileNotFoundError, NotADirectoryError):
         return None
-    return found if is_served(found) else None
+    return found if found.st_mode & KIND in SERVED else None
+
+
+def _open_file(folder: int, name: str) -> tuple[int, bool]:
+    place = name.encode()
+    try:
+        return os.open(place, FILE | os.O_RDWR, dir_fd=folder), True
+    except OSError as fault:
+        if fault.errno not in NOT_WRITABLE:
+            raise
+    return os.open(place, FILE | os.O_RDONLY, dir_fd=folder), False
 
 
 def _is_same(folder: int, name: str, identity: tuple[int, int]) -> bool:
@@ -179,10 +196,3 @@ def _is_there(folder: int, name: str) -> bool:
     except FileNotFoundError:
         return False
     return True
-
-
-def _plain(descriptor: int) -> int:
-    if not stat.S_ISREG(os.fstat(descriptor).st_mode):
-        os.close(descriptor)
-        raise FileNotFoundError(errno.ENOENT, "no plain file")
-    return descriptor

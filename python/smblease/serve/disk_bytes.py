@@ -26,7 +26,7 @@ def read_bytes(descriptor: int, offset: int, length: int) -> bytes:
 
 def write_bytes(descriptor: int, offset: int, data: bytes | memoryview) -> None:
     """All of them, or none: where the disk takes a part, the bytes before are put back."""
-    size = os.fstat(descriptor).st_size
+    size = os.lseek(descriptor, 0, os.SEEK_END)
     before = read_bytes(descriptor, offset, min(len(data), size - offset)) if offset < size else b""
     done = os.pwrite(descriptor, data, offset)
     if done == len(data):

@@ -50,18 +50,15 @@ class Faults:
     """Those that wait for their message, in the order in which they came. There are none where nobody asks for any."""
 
     def __init__(self) -> None:
-        self._waiting: list[Fault] = []
-
-    def __bool__(self) -> bool:
-        return bool(self._waiting)
+        self.waiting: list[Fault] = []
 
     def add(self, fault: Fault) -> None:
-        self._waiting.append(fault)
+        self.waiting.append(fault)
 
     def take(self, actions: Collection[Action], kind: str, peer: Peer) -> Fault | None:
         """The first one that the message meets, which is over by that."""
-        found = next((it for it in self._waiting if it.meets(actions, kind, peer)), None)
+        found = next((it for it in self.waiting if it.meets(actions, kind, peer)), None)
         if found:
-            self._waiting.remove(found)
+            self.waiting.remove(found)
             found.is_over = True
         return found

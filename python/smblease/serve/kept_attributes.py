@@ -31,8 +31,9 @@ NOTHING = Kept()
 
 
 def kept_at(descriptor: int) -> Kept:
+    """(Of most files nothing is kept, and a list says that sooner than a fault.)"""
     try:
-        return _read(os.getxattr(descriptor, PLACE))
+        return _read(os.getxattr(descriptor, PLACE)) if PLACE in os.listxattr(descriptor) else NOTHING
     except OSError:
         return NOTHING
 

@@ -21,27 +21,27 @@ class ManagerClients:
     def __init__(self, chance: Chance) -> None:
         self._chance = chance
         self._next, self._next_of_shell = itertools.count(1), itertools.count(SHELLS)
-        self._by_number: dict[int, ManagerClient] = {}
+        self.by_number: dict[int, ManagerClient] = {}
         self._by_guid: dict[bytes, ManagerClient] = {}
 
     def numbered(self, number: int) -> ManagerClient | None:
-        return self._by_number.get(number)
+        return self.by_number.get(number)
 
     def of_guid(self, guid: bytes) -> ManagerClient | None:
         return self._by_guid.get(guid)
 
     def of(self, connection: Connection) -> list[ManagerClient]:
-        return [it for it in self._by_number.values() if connection in it.connections]
+        return [it for it in self.by_number.values() if connection in it.connections]
 
     def take(self, guid: bytes | None, is_shells: bool = False) -> ManagerClient:
         number, key = next(self._next_of_shell if is_shells else self._next), UUID(bytes=b"oplock" + self._chance.take(10))
         client = ManagerClient(number, guid, own_key=key)
-        self._by_number[client.number] = client
+        self.by_number[client.number] = client
         if guid is not None:
             self._by_guid[guid] = client
         return client
 
     def free(self, client: ManagerClient) -> None:
-        del self._by_number[client.number]
+        del self.by_number[client.number]
         if client.guid is not None:
             del self._by_guid[client.guid]

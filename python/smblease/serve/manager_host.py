@@ -7,8 +7,8 @@ import asyncio
 import itertools
 from collections import deque
 from collections.abc import Callable
-from dataclasses import dataclass, field, replace
-from typing import TYPE_CHECKING, Any, Union
+from dataclasses import replace
+from typing import TYPE_CHECKING, Any
 
 from smblease import LeaseState, MachineLost, Manager, Rules, Status
 from smblease.drive.headers import Unreadable
@@ -23,21 +23,36 @@ from smblease.serve.status_error import EXHAUSTED, RefusedByManager, StatusError
 if TYPE_CHECKING:
     from smblease.serve.server import Server
 
-Tagged = Union[Opened, GoesOn, Closed, Refused, Withdrawn]
 
 
-@dataclass(eq=False)
+LOST = (MachineLost, *EXHAUSTED)
+
+
 class Task:
+    """Steps that are gone through, each with what came of the one before it."""
+
     # (the steps that nobody waits for have no answer)
     handling: Handling | Steps
-    ended: Callable[[Answer], None]
-    is_over: bool = False
-    # what it waits for
-    asked: Asked | None = None
-    tag: int = 0
-    pause: Pause | None = None
-    # what the manager decided of it, and whose leases it broke by that
-    decided: list[Decision] = field(default_factory=list)
+
+    def __init__(self, handling: Handling | Steps, ended: Callable[[Answer], None]) -> None:
+        self._prepare()
+        self.handling, self._ended = handling, ended
+
+    def _prepare(self) -> None:
+        self.is_over = False
+        # what it waits for
+        self.asked: Asked | None = None
+        self.tag = 0
+        self.pause: Pause | None = None
+        # what the manager decided of it, and whose leases it broke by that, where somebody wants to know
+        self.decided: list[Decision] | None = None
+
+    def begin(self, _: object) -> Yielded | Answer:
+        """Its first step."""
+        return next(self.handling)
+
+    def ended(self, answer: Answer) -> None:
+        self._ended(answer)
 
 
 class ManagerHost:
@@ -48,20 +63,24 @@ class ManagerHost:
         self._server = server
         self.manager = Manager(rules)
         self._tags = itertools.count(1)
-        # by their clients and their tags
-        self._waiting: dict[int, dict[int, Task]] = {}
+        # by their tags, of which no two are the same
+        self._waiting: dict[int, Task] = {}
         # an acknowledgment with its task
         self._decisions: deque[tuple[Decision | Pause, Task | None]] = deque()
         self._paused: dict[Pause, Task] = {}
         self.is_draining = False
+        self._carries: dict[type[Any], Callable[[Any, Task | None], None]] = {
+            GoesOn: self._goes_on, Opened: self._goes_on, Closed: self._goes_on, Refused: self._refused, Withdrawn: self._refused,
+            Acknowledged: self._acknowledged, NotAcknowledged: self._acknowledged, Pause: self._go_on,
+            Breaks: lambda it, _: server.broken(it), Ended: lambda it, _: server.ended(it.file_id), Waits: lambda _, __: None}
 
     @property
     def waiting(self) -> list[Task]:
-        return [task for tasks in self._waiting.values() for task in tasks.values()]
+        return list(self._waiting.values())
 
     def start(self, task: Task) -> None:
         """Begins a task, and goes on until nothing is left that was decided."""
-        self._send(task, None)
+        self._go(task, task.begin, None)
         self.drain()
 
     def call(self, call: Callable[[Manager], Decisions | None]) -> Decisions:
@@ -73,7 +92,7 @@ class ManagerHost:
     def _called(self, call: Callable[..., Decisions | None], *more: object) -> Decisions:
         try:
             return call(self.manager, *more) or ()
-        except (MachineLost, *EXHAUSTED):
+        except LOST:
             self._lost()
             return ()
 
@@ -82,17 +101,19 @@ class ManagerHost:
         self.manager = Manager(self._rules)
         self._decisions.clear()
         self._decisions.extend((it, None) for it in self._paused)
-        self.abandon(set(self._waiting), Status.USER_SESSION_DELETED)
+        self.abandon({it.asked.client.number for it in self._waiting.values() if it.asked}, Status.USER_SESSION_DELETED)
         self._server.lost()
 
     def drain(self) -> None:
         if self.is_draining:
             return
         self.is_draining = True
+        decisions, carries = self._decisions, self._carries
         try:
-            while self._decisions:
+            while decisions:
+                decision, task = decisions.popleft()
                 try:
-                    self._carry_out(*self._decisions.popleft())
+                    carries[type(decision)](decision, task)
                 except EXHAUSTED:
                     # It can't be told any more who was sent what.
                     self._lost()
@@ -116,25 +137,20 @@ class ManagerHost:
 
     def abandon(self, clients: set[int], status: Status) -> None:
         """The manager has forgotten what these clients asked for."""
-        for client in clients:
-            for task in self._waiting.pop(client, {}).values():
+        forgotten: dict[int, list[Task]] = {it: [] for it in clients}
+        for task in self._waiting.values():
+            if task.asked and task.asked.client.number in clients:
+                forgotten[task.asked.client.number].append(task)
+        for tasks in forgotten.values():
+            for task in [it for it in tasks if self._waiting.pop(it.tag, None)]:
                 self._refuse(task, StatusError(status))
 
     # Decisions
 
-    def _carry_out(self, decision: Decision | Pause, task: Task | None) -> None:
-        if isinstance(decision, (Opened, GoesOn, Closed, Refused, Withdrawn)):
-            self._decided(decision)
-        elif isinstance(decision, Pause):
-            paused = self._resumed(decision)
-            if paused:
-                self._send(paused, None)
-        elif isinstance(decision, Breaks):
-            self._server.broken(decision)
-        elif isinstance(decision, Ended):
-            self._server.ended(decision.file_id)
-        elif not isinstance(decision, Waits):
-            self._acknowledged(decision, task)
+    def _go_on(self, pause: Pause, _: Task | None) -> None:
+        paused = self._resumed(pause)
+        if paused:
+            self._send(paused, None)
 
     def _acknowledged(self, decision: Acknowledged | NotAcknowledged, task: Task | None) -> None:
         if task is None or task.is_over:
@@ -145,30 +161,36 @@ class ManagerHost:
         else:
             self._refuse(task, RefusedByManager(Status(decision.status)))
 
-    def _decided(self, decision: Tagged) -> None:
-        task = self._taken(decision.client, decision.tag)
-        if task:
+    def _refused(self, decision: Refused | Withdrawn, _: Task | None) -> None:
+        task = self._waiting.pop(decision.tag, None)
+        if task and task.decided is not None:
+            task.decided.append(decision)
+        if task is None or task.asked is None:
+            return
+        if isinstance(decision, Withdrawn):
+            self._refuse(task, StatusError(Status.CANCELLED))
+        else:
+            self._server.sent(decision.client)
+            self._refuse(task, RefusedByManager(Status(decision.status)))
+
+    def _goes_on(self, decision: Opened | GoesOn | Closed, _: Task | None) -> None:
+        task = self._waiting.pop(decision.tag, None)
+        if task and task.decided is not None:
             task.decided.append(decision)
         if task is None or task.asked is None:
             # Its client was cut before this was carried out. What nobody knows of nobody can close.
             if isinstance(decision, Opened):
                 file_id = decision.file_id
                 self.call(lambda manager: manager.scavenge(file_id))
-        elif isinstance(decision, Withdrawn):
-            self._refuse(task, StatusError(Status.CANCELLED))
-        elif isinstance(decision, Refused):
-            self._server.sent(decision.client)
-            self._refuse(task, RefusedByManager(Status(decision.status)))
-        else:
-            self._goes_on(task, task.asked, decision)
-
-    def _goes_on(self, task: Task, asked: Asked, decision: Opened | GoesOn | Closed) -> None:
+            return
+        asked = task.asked
         fault: StatusError | None = None
         found: object = decision
         try:
-            if not isinstance(decision, Opened):
+            # pylint: disable-next=unidiomatic-typecheck  # (of what it isn't isinstance finds that later)
+            if type(decision) is not Opened:
                 found = asked.effect()
-            elif asked.is_new_open and asked.node:
+            elif asked.is_new_open and asked.node and self._server.record.is_kept:
                 self._server.record.opened(asked.client, asked.node)
         except StatusError as refused:
             fault = refused
@@ -182,11 +204,11 @@ class ManagerHost:
         if fault:
             self._refuse(task, fault)
         else:
-            self._send(task, found)
+            self._go(task, task.handling.send, found)
 
     # Tasks
 
-    def _go(self, task: Task, step: Callable[[Any], Yielded], given: object) -> None:
+    def _go(self, task: Task, step: Callable[[Any], Yielded | Answer], given: object) -> None:
         try:
             asked = step(given)
         except StopIteration as stop:
@@ -204,10 +226,13 @@ class ManagerHost:
         else:
             self._ask(task, asked)
 
-    def _ask(self, task: Task, asked: Yielded) -> None:
+    def _ask(self, task: Task, asked: Yielded | Answer) -> None:
         """What comes of a client that isn't connected is dropped, and nothing is decided."""
         if isinstance(asked, Asked):
             is_decided = self._put(task, asked)
+        elif isinstance(asked, Answer):
+            self._end(task, asked)
+            return
         elif isinstance(asked, Acknowledging):
             is_decided = self._acknowledge(task, asked)
         elif isinstance(asked, Meanwhile):
@@ -219,18 +244,22 @@ class ManagerHost:
             return
         if not is_decided and not task.is_over:
             if task.asked:
-                self._taken(task.asked.client.number, task.tag)
+                self._waiting.pop(task.tag, None)
             self._refuse(task, StatusError(Status.FILE_CLOSED))
 
     def _put(self, task: Task, asked: Asked) -> bool:
         tag = next(self._tags)
         task.asked, task.tag = asked, tag
-        self._waiting.setdefault(asked.client.number, {})[tag] = task
-        decisions = self._called(asked.call, tag)
+        self._waiting[tag] = task
+        try:
+            decisions = asked.call(self.manager, tag)
+        except LOST:
+            self._lost()
+            return False
         for it in decisions:
             told = _told(it) if asked.empties else it
             self._decisions.append((told, None))
-            if isinstance(told, (Breaks, Waits)):
+            if task.decided is not None and isinstance(told, (Breaks, Waits)):
                 task.decided.append(told)
         return bool(decisions)
 
@@ -241,7 +270,8 @@ class ManagerHost:
         decisions = self._called(Manager.acknowledge, client, message) if message \
             else self._called(Manager.acknowledge_malformed, client)
         self._decisions.extend((it, None if place else task) for place, it in enumerate(decisions))
-        task.decided += (it for it in decisions if isinstance(it, (Acknowledged, Breaks)))
+        if task.decided is not None:
+            task.decided += (it for it in decisions if isinstance(it, (Acknowledged, Breaks)))
         return bool(decisions)
 
     def _wait_for(self, task: Task, asked: Meanwhile) -> None:
@@ -263,13 +293,6 @@ class ManagerHost:
         task = self._paused.pop(pause, None)
         if task:
             task.pause = None
-        return task
-
-    def _taken(self, client: int, tag: int) -> Task | None:
-        tasks = self._waiting.get(client)
-        task = tasks.pop(tag, None) if tasks else None
-        if not tasks:
-            self._waiting.pop(client, None)
         return task
 
     def _send(self, task: Task, found: object) -> None:

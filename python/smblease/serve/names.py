@@ -49,6 +49,16 @@ def path_of(name: str) -> str:
     return path
 
 
+@lru_cache(1024)
+def _short_path(data: bytes) -> str:
+    return path_of(text_of(data))
+
+
+def path_on_wire(data: bytes) -> str:
+    """A path as it comes on the wire. Those that are short and come again and again are known."""
+    return _short_path(data) if len(data) <= 2 * LONGEST else path_of(text_of(data))
+
+
 def sent_name(name: bytes) -> str | None:
     """A name of the disk as clients are sent it, or none where they can't be: it has to be UTF-8, without what SMB forbids."""
     try:

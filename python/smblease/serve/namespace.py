@@ -7,7 +7,7 @@ import os
 import resource
 
 from smblease import Status
-from smblease.serve.disk import Disk, Located, stat_in
+from smblease.serve.disk import KIND, Disk, Located, stat_in
 from smblease.serve.file_numbers import FileNumbers
 from smblease.serve.folder_names import names_in
 from smblease.serve.kept_attributes import WRITABLE
@@ -39,30 +39,28 @@ class Namespace:
     # What is there
 
     def find(self, path: str) -> Node | None:
-        base, colon, stream = path.partition(":")
-        located = self.disk.locate(base)
-        if located is None:
-            return None
-        return self._find_stream(located, stream) if colon else self._known(self._node(located))
-
-    def _node(self, located: Located) -> Node:
-        return Node(located.path, located.stat, shown=self._shown)
+        if ":" in path:
+            base, _, stream = path.partition(":")
+            located = self.disk.locate(base)
+            return self._find_stream(located, stream) if located else None
+        located = self.disk.locate(path)
+        return self._known(located.path, located.stat) if located else None
 
     def _find_stream(self, base: Located, name: str) -> Node | None:
-        found = self._streams.find(self._node(base).identity, name)
+        found = self._streams.find((base.stat.st_dev, base.stat.st_ino), name)
         located = self._streams.disk.locate(found.place) if found else None
         if found is None or located is None:
             return None
-        return self._known(Node(f"{base.path}:{found.name}", located.stat, found.place, self._shown))
+        return self._known(f"{base.path}:{found.name}", located.stat, found.place)
 
-    def _known(self, node: Node) -> Node:
+    def _known(self, path: str, found: os.stat_result, stream_place: str | None = None) -> Node:
         """The one that is held, unless something else has its name by now."""
-        known = self._held.get(node.path)
-        if known and known.identity == node.identity:
+        known = self._held.get(path)
+        if known and known.identity == (found.st_dev, found.st_ino):
             return known
         if known:
             self._lose(known)
-        return node
+        return Node(path, found, stream_place, self._shown)
 
     def _lose(self, node: Node) -> None:
         node.is_gone = True
@@ -125,7 +123,7 @@ class Namespace:
             if node.is_folder:
                 descriptor, is_writable = disk.open_folder(node.place), False
             else:
-                descriptor, is_writable = disk.open_file(node.place)
+                descriptor, is_writable = disk.open_file(node.stream_place or node.path)
             self._begin(node, descriptor, is_writable)
         node.users += 1
         return node
@@ -136,7 +134,7 @@ class Namespace:
 
     def _begin(self, node: Node, descriptor: int, is_writable: bool) -> None:
         found = os.fstat(descriptor)
-        if (found.st_dev, found.st_ino) != node.identity:
+        if (found.st_dev, found.st_ino) != node.identity or found.st_mode & KIND != node.found.st_mode & KIND:
             os.close(descriptor)
             raise FileNotFoundError(errno.ENOENT, "another file has the name by now")
         node.descriptor, node.is_writable = descriptor, is_writable

@@ -3,7 +3,6 @@ from __future__ import annotations
 
 import os
 import stat
-from dataclasses import dataclass, field
 from typing import TYPE_CHECKING
 
 from smblease.serve.kept_attributes import FOLDER, NORMAL, NOTHING, READ_ONLY, WRITABLE, Kept, kept_at
@@ -16,39 +15,24 @@ if TYPE_CHECKING:
 UNIT = 4096
 
 
-@dataclass(eq=False)
-class Node:
+class Node:  # pylint: disable=too-many-instance-attributes  # it has the state of a file
     """A file or a folder. It is what its descriptor leads to; its path is looked at where its name matters."""
 
-    path: str
-    found: os.stat_result
-    # of a stream: where it is in the streams' folder
-    stream_place: str | None = None
-    shown: ShownFiles = ON_DISK
-    # the manager's number of a file that is held
-    number: int = 0
-    descriptor: int | None = None
-    is_writable: bool = False
-    # how many creates and opens need the descriptor
-    users: int = 0
-    allocated: int = 0
-    is_deleting: bool = False
-    is_gone: bool = False
-    opens: OpensOfFile = field(default_factory=OpensOfFile)
-    # what waits until a lock or an open of it is given up
-    pauses: list[Pause] = field(default_factory=list)
-
-    @property
-    def identity(self) -> tuple[int, int]:
-        return self.found.st_dev, self.found.st_ino
-
-    @property
-    def is_folder(self) -> bool:
-        return stat.S_ISDIR(self.found.st_mode)
-
-    @property
-    def is_stream(self) -> bool:
-        return self.stream_place is not None
+    def __init__(self, path: str, found: os.stat_result, stream_place: str | None = None, shown: ShownFiles = ON_DISK) -> None:
+        """`stream_place` is where a stream is in the streams' folder."""
+        self.path, self.found, self.stream_place, self.shown = path, found, stream_place, shown
+        self.identity = found.st_dev, found.st_ino
+        self.is_folder = stat.S_ISDIR(found.st_mode)
+        # the manager's number of a file that is held
+        self.number = self.allocated = 0
+        self.descriptor: int | None = None
+        self.is_writable = self.is_deleting = self.is_gone = False
+        # how many creates and opens need the descriptor
+        self.users = 0
+        self.is_stream = stream_place is not None
+        self.opens = OpensOfFile()
+        # what waits until a lock or an open of it is given up
+        self.pauses: list[Pause] = []
 
     @property
     def place(self) -> str:
@@ -61,8 +45,12 @@ class Node:
 
     @property
     def stat(self) -> os.stat_result:
+        return self.shown_stat()
+
+    def shown_stat(self) -> os.stat_result:
         """As clients are shown it."""
-        return self.shown.shown(self.found if self.descriptor is None else os.fstat(self.descriptor))
+        found = self.found if self.descriptor is None else os.fstat(self.descriptor)
+        return found if self.shown is ON_DISK else self.shown.shown(found)
 
     @property
     def kept(self) -> Kept:
@@ -70,7 +58,9 @@ class Node:
 
     @property
     def is_read_only(self) -> bool:
-        return is_read_only(self.stat)
+        """A file that may only be read is one that its owner may not write."""
+        found = self.stat
+        return not self.is_folder and not found.st_mode & WRITABLE
 
     @property
     def file(self) -> int:
@@ -79,17 +69,15 @@ class Node:
         return self.descriptor
 
 
-def is_read_only(found: os.stat_result) -> bool:
-    """A file that may only be read is one that its owner may not write."""
-    return not stat.S_ISDIR(found.st_mode) and not found.st_mode & WRITABLE
-
-
 def attributes_in(found: os.stat_result, kept: Kept) -> int:
     """A file that has no attribute has the one that says so (MS-FSCC 2.6)."""
-    is_folder = stat.S_ISDIR(found.st_mode)
-    return kept.of(is_folder) | (FOLDER if is_folder else 0) | (READ_ONLY if is_read_only(found) else 0) or NORMAL
+    mode = found.st_mode
+    if stat.S_ISDIR(mode):
+        return kept.of(True) | FOLDER
+    return kept.of(False) | (0 if mode & WRITABLE else READ_ONLY) or NORMAL
 
 
 def allocation(found: os.stat_result, allocated: int = 0) -> int:
     """Bytes that are taken, at least those that were asked for."""
-    return -(-max(allocated, found.st_size) // UNIT) * UNIT
+    taken = found.st_size if found.st_size > allocated else allocated
+    return -(-taken // UNIT) * UNIT

@@ -14,6 +14,7 @@ if TYPE_CHECKING:
     from smblease.serve.sessions import Session, Tree
 
 NO_LEVEL, LEVEL_II, EXCLUSIVE, BATCH, LEASE = 0, 1, 8, 9, 0xFF
+OPLOCKS = (LEVEL_II, EXCLUSIVE, BATCH)
 # The shell's own FileIds are far from the manager's, which begin at 1.
 OWN_FILE_IDS = 1 << 62
 
@@ -28,36 +29,27 @@ class Lock:
         return self.offset < offset + length and offset < self.offset + self.length
 
 
-@dataclass(eq=False)
 class Open:  # pylint: disable=too-many-instance-attributes  # it has the state of every command
-    file_id: int
-    node: Node
-    access: int
-    share: int
-    connection: Connection | None
-    session: Session | None
-    tree: Tree | None
-    # the manager's client; none for what the shell keeps by itself
-    client: ManagerClient | None = None
-    key: UUID | None = None
-    level: int = NO_LEVEL
-    is_durable: bool = False
-    deletes: bool = False
-    # what it writes is on disk before that is answered
-    writes_through: bool = False
-    owner: str = ""
-    position: int = 0
-    locks: list[Lock] = field(default_factory=list)
-    # the manager's open may do more than this one
-    is_lent: bool = False
-    # it shares no reading, which the manager wasn't told
-    hides_reading: bool = False
-    # a break of its oplock waits for the client's word
-    is_breaking: bool = False
-    # until when it is kept without a connection
-    timer: TimerHandle | None = None
-    # of a folder: the names that are still to be listed
-    listing: list[str] | None = None
+    def __init__(self, file_id: int, node: Node, access: int, share: int, session: Session, tree: Tree) -> None:
+        self.file_id, self.node, self.access, self.share = file_id, node, access, share
+        self.connection: Connection | None = session.connection
+        self.session: Session | None = session
+        self.tree: Tree | None = tree
+        self.owner = session.owner
+        self.locks: list[Lock] = []
+        # the manager's client; none for what the shell keeps by itself
+        self.client: ManagerClient | None = None
+        self.key: UUID | None = None
+        self.level, self.position = NO_LEVEL, 0
+        # `writes_through`: what it writes is on disk before that is answered
+        self.is_durable = self.deletes = self.writes_through = False
+        # the manager's open may do more than this one; it shares no reading, which the manager wasn't told; a break of its
+        # oplock waits for the client's word
+        self.is_lent = self.hides_reading = self.is_breaking = False
+        # until when it is kept without a connection
+        self.timer: TimerHandle | None = None
+        # of a folder: the names that are still to be listed
+        self.listing: list[str] | None = None
 
     @property
     def is_connected(self) -> bool:
@@ -74,7 +66,7 @@ class Open:  # pylint: disable=too-many-instance-attributes  # it has the state 
 
     @property
     def has_oplock(self) -> bool:
-        return self.level in (LEVEL_II, EXCLUSIVE, BATCH)
+        return self.level in OPLOCKS
 
 
 @dataclass(eq=False)

@@ -5,7 +5,7 @@ from collections.abc import Iterator
 from typing import TYPE_CHECKING
 
 from smblease import LeaseState
-from smblease.serve.access import DELETE, SHARE_DELETE, SHARE_READ, counts, is_of_attributes, reads
+from smblease.serve.access import COUNTING, DELETE, OF_ATTRIBUTES, READING, SHARE_DELETE, SHARE_READ
 
 if TYPE_CHECKING:
     from smblease.serve.opens import LeaseSeen, Open
@@ -36,23 +36,33 @@ class OpensOfFile:  # pylint: disable=too-many-instance-attributes  # it counts 
         """Once the manager's client of it is known."""
         self._opens[opened] = None
         self._count(opened, 1)
-        self.level_changed(opened)
+        if opened.level:
+            self.level_changed(opened)
 
     def remove(self, opened: Open) -> None:
         del self._opens[opened]
         self._count(opened, -1)
-        self.oplocks.discard(opened)
-        self.with_locks.pop(opened, None)
+        if opened in self.oplocks:
+            self.oplocks.remove(opened)
+        if opened in self.with_locks:
+            del self.with_locks[opened]
 
     def _count(self, opened: Open, weight: int) -> None:
-        if counts(opened.access):
-            self.deleting += weight * bool(opened.access & DELETE)
-            self.without_deletion += weight * (not opened.share & SHARE_DELETE)
-            self.without_reading += weight * (not opened.share & SHARE_READ)
-            self.hiding += weight * opened.hides_reading
+        access, share = opened.access, opened.share
+        if access & COUNTING:
+            if access & DELETE:
+                self.deleting += weight
+            if not share & SHARE_DELETE:
+                self.without_deletion += weight
+            if not share & SHARE_READ:
+                self.without_reading += weight
+            if opened.hides_reading:
+                self.hiding += weight
         if opened.client:
-            self.looking += weight * is_of_attributes(opened.access)
-            self.reading += weight * reads(opened.access)
+            if not access & ~OF_ATTRIBUTES:
+                self.looking += weight
+            if access & READING:
+                self.reading += weight
 
     def level_changed(self, opened: Open) -> None:
         if opened.has_oplock:

@@ -25,7 +25,8 @@ class Outgoing:
         self._transport = asyncio.Transport()
         # whether small frames wait for others
         self.collects = False
-        self._holding: dict[Chain, None] = {}
+        # chains whose answers wait for others
+        self.holding: dict[Chain, None] = {}
         self._frames: list[bytes] = []
         self._after_next: list[bytes] = []
 
@@ -35,14 +36,13 @@ class Outgoing:
 
     @property
     def unread(self) -> int:
-        return self._transport.get_write_buffer_size() + sum(it.held for it in self._holding)
-
-    def hold(self, chain: Chain) -> None:
-        self._holding[chain] = None
+        return self._transport.get_write_buffer_size() + sum(it.held for it in self.holding)
 
     def send_held(self) -> None:
         """What chains have been answered goes before what is decided later."""
-        holding, self._holding = self._holding, {}
+        if not self.holding:
+            return
+        holding, self.holding = self.holding, {}
         for chain in holding:
             if chain.has_answers:
                 self.send(chain.take_answers())
@@ -52,11 +52,13 @@ class Outgoing:
         self.flush()
 
     def forget(self) -> None:
-        self._holding.clear()
+        self.holding.clear()
 
     def send(self, data: bytes) -> None:
-        later, self._after_next = self._after_next, []
-        self._frames += [data, *later]
+        self._frames.append(data)
+        if self._after_next:
+            self._frames += self._after_next
+            self._after_next = []
         if not self.collects or len(self._frames) >= MOST_TOGETHER or len(data) > LARGE:
             self.flush()
 
@@ -77,7 +79,7 @@ class Outgoing:
     def keep_back(self, kind: str, response: Response, met: Action | None = None) -> Action | None:
         """Where a fault is asked for with this message it goes by itself, later or never; one that `met` a fault meets none."""
         connection, faults = self._connection, self._connection.server.faults
-        if not faults:
+        if not faults.waiting:
             return None
         faults.take(WAITS, kind, connection.peer)
         fault = None if met else faults.take(ON_ANSWERS, kind, connection.peer)

@@ -12,9 +12,11 @@ from smblease.drive.packets import PROTOCOL
 
 HEAD = struct.Struct("<4sHHLHHLLQQQ16s")
 LENGTH = struct.Struct(">L")
-# Of a request's header its beginning and where the next one is; and what follows its StructureSize, but for the signature.
-START = struct.Struct("<4sH14xL")
-FIXED = struct.Struct("<HLHHLLQLLQ")
+# A request's header: its beginning, charge, command, credits, flags, where the next one is, its number, tree and session.
+ASKED = struct.Struct("<4sHH4xHHLLQ4xLQ16x")
+NUMBER = struct.Struct("<L")
+NO_SIGNATURE = bytes(16)
+PADDINGS = tuple(map(bytes, range(8)))
 ERROR_BODY = struct.pack("<HBBL", 9, 0, 0, 0) + b"\0"
 SIGNED = 8
 # The most that is read or written at once; and what a frame may hold, which has room for headers and contexts too.
@@ -22,12 +24,12 @@ LONGEST_TRANSFER = 1 << 20
 LONGEST_FRAME = LONGEST_TRANSFER + 131072
 LONGEST_WITHOUT_SESSION = 65536
 MOST_IN_FRAME = 1024
-# The StructureSize of requests.
-SIZES: dict[Command | None, int] = {
+# The StructureSize of requests, as it stands on the wire.
+SIZES: dict[Command | None, bytes] = {command: size.to_bytes(2, "little") for command, size in {
     Command.NEGOTIATE: 36, Command.SESSION_SETUP: 25, Command.LOGOFF: 4, Command.TREE_CONNECT: 9, Command.TREE_DISCONNECT: 4,
     Command.CREATE: 57, Command.CLOSE: 24, Command.FLUSH: 24, Command.READ: 49, Command.WRITE: 49, Command.LOCK: 48,
     Command.IOCTL: 57, Command.ECHO: 4, Command.QUERY_DIRECTORY: 33, Command.CHANGE_NOTIFY: 32, Command.QUERY_INFO: 41,
-    Command.SET_INFO: 33}
+    Command.SET_INFO: 33}.items()}
 # Where a request says how many bytes it sends, and where how many it may be answered, from the header's first byte: of two places
 # the numbers are added.
 PAYLOADS: dict[Command | None, list[tuple[int, int | None]]] = {
@@ -40,19 +42,19 @@ CREDIT_BYTES = 65536
 class RequestMessage(Message):
     """A request; its fields are read at their places from the header's first byte."""
 
+    code: int
     charge: int
     credits_asked: int
-    is_related: bool
-    is_signed: bool
+    is_related: int
+    is_signed: int
 
-    def __init__(self, data: bytes) -> None:  # pylint: disable=super-init-not-called  # (which is slower)
-        """What every request is asked for is read once."""
-        if len(data) < HEADER:
-            raise Unreadable
-        charge, _, code, credits_asked, flags, _, identifier, _, tree, session = FIXED.unpack_from(data, 6)
-        self.__dict__.update(data=data, charge=charge, command=COMMANDS.get(code), credits_asked=credits_asked, flags=flags,
-                             identifier=identifier, tree=tree, session=session, is_related=bool(flags & RELATED),
-                             is_signed=bool(flags & SIGNED))
+    def __init__(self, data: bytes, head: tuple[Any, ...]) -> None:  # pylint: disable=super-init-not-called  # (which is slower)
+        """Its header is read once: the fields of ASKED."""
+        _, _, charge, code, credits_asked, flags, _, identifier, tree, session = head
+        object.__setattr__(self, "__dict__", {
+            "data": data, "charge": charge, "code": code, "command": COMMANDS.get(code), "credits_asked": credits_asked,
+            "flags": flags, "identifier": identifier, "tree": tree, "session": session, "is_related": flags & RELATED,
+            "is_signed": flags & SIGNED})
 
     @property
     def async_id(self) -> int | None:
@@ -60,9 +62,10 @@ class RequestMessage(Message):
 
     def fields(self, layout: struct.Struct) -> tuple[Any, ...]:
         """Those of its body, as far as the layout goes."""
-        if HEADER + layout.size > len(self.data):
-            raise Unreadable
-        return layout.unpack_from(self.data, HEADER)
+        try:
+            return layout.unpack_from(self.data, HEADER)
+        except struct.error:
+            raise Unreadable from None
 
     def buffer(self, offset_place: int, length: int) -> bytes:
         """Bytes that lie where a field of two bytes says."""
@@ -74,18 +77,26 @@ class RequestMessage(Message):
             raise Unreadable
         return memoryview(self.data)[place:place + length]
 
-    def check_size(self) -> None:
-        """The StructureSize has to be that of the command. The messages of OPLOCK_BREAK have several."""
-        size = SIZES.get(self.command)
-        if size is not None and self.number(HEADER, 2) != size:
+    def check_form(self) -> None:
+        """The StructureSize has to be that of the command; the messages of OPLOCK_BREAK have several. And what it costs has to be
+        enough for what it transfers (3.3.5.2.5); a charge of 0 is one of 1."""
+        command = self.command
+        if command in SIZES and self.data[HEADER:HEADER + 2] != SIZES[command]:
             raise Unreadable
+        if command in PAYLOADS:
+            self._check_charge(PAYLOADS[command])
 
-    def check_charge(self) -> None:
-        """What it costs has to be enough for what it transfers (3.3.5.2.5). A charge of 0 is one of 1."""
-        most = CREDIT_BYTES * (self.charge or 1)
-        for place, other in PAYLOADS.get(self.command, ()):
-            if self.number(place, 4) + (self.number(other, 4) if other else 0) > most:
-                raise Unreadable
+    def _check_charge(self, payloads: list[tuple[int, int | None]]) -> None:
+        data, most = self.data, CREDIT_BYTES * (self.charge or 1)
+        try:
+            for place, other in payloads:
+                count, = NUMBER.unpack_from(data, place)
+                if other:
+                    count += NUMBER.unpack_from(data, other)[0]
+                if count > most:
+                    raise Unreadable
+        except struct.error:
+            raise Unreadable from None
 
 
 @dataclass
@@ -120,7 +131,6 @@ class Response:
     async_id: int | None = None
     key: bytes | None = field(default=None, repr=False)
 
-    @property
     def length(self) -> int:
         return HEADER + len(self.body) + len(self.data)
 
@@ -131,7 +141,7 @@ class Response:
         if self.key:
             flags |= SIGNED
         return HEAD.pack(PROTOCOL, HEADER, self.charge, self.status, self.command, self.credits, flags, following,
-                         self.message, place, self.session, bytes(16))
+                         self.message, place, self.session, NO_SIGNATURE)
 
 
 def signature(data: bytes, key: bytes) -> bytes:
@@ -149,16 +159,21 @@ def signed(data: bytes, key: bytes) -> bytes:
 
 def framed(responses: list[Response]) -> bytes:
     """A frame of one message, or of a compound whose messages begin at multiples of eight."""
-    if len(responses) == 1 and not responses[0].key:
-        response = responses[0]
-        return b"".join((LENGTH.pack(response.length), response.header(0), response.body, response.data))
-    parts = [b""]
-    for place, response in enumerate(responses, 1):
-        padding = -response.length % 8 if place < len(responses) else 0
-        following = response.length + padding if place < len(responses) else 0
-        message = [response.header(following), response.body, response.data, bytes(padding)]
-        parts += [signed(b"".join(message), response.key)] if response.key else message
-    parts[0] = LENGTH.pack(sum(map(len, parts)))
+    last = responses[-1]
+    if len(responses) == 1 and not last.key:
+        return b"".join((LENGTH.pack(HEADER + len(last.body) + len(last.data)), last.header(0), last.body, last.data))
+    parts, total = [b""], 0
+    for response in responses:
+        length = response.length()
+        padding = 0 if response is last else -length % 8
+        following = 0 if response is last else length + padding
+        if response.key:
+            message = b"".join((response.header(following), response.body, response.data, PADDINGS[padding]))
+            parts.append(signed(message, response.key))
+        else:
+            parts += (response.header(following), response.body, response.data, PADDINGS[padding])
+        total += length + padding
+    parts[0] = LENGTH.pack(total)
     return b"".join(parts)
 
 
@@ -168,14 +183,15 @@ def split_compound(frame: bytes, most: int = MOST_IN_FRAME) -> list[RequestMessa
     start, following = 0, HEADER
     while following:
         left = len(frame) - start
-        if left < HEADER:
+        if left < HEADER or len(found) == most:
             raise Unreadable
-        protocol, size, following = START.unpack_from(frame, start)
-        is_placed = not following or HEADER <= following <= left - HEADER and following % 8 == 0
-        if protocol != PROTOCOL or size != HEADER or not is_placed or len(found) == most:
+        head = ASKED.unpack_from(frame, start)
+        following = head[6]
+        if head[0] != PROTOCOL or head[1] != HEADER or following and not (
+                HEADER <= following <= left - HEADER and following % 8 == 0):
             raise Unreadable
         # (a frame of one request isn't copied)
-        found.append(RequestMessage(frame[start:start + following] if following else frame[start:]))
+        found.append(RequestMessage(frame[start:start + following] if following else frame[start:], head))
         start += following
     return found
 
@@ -184,28 +200,55 @@ class Frames:
     """The bytes of a stream, cut into frames."""
 
     def __init__(self) -> None:
-        self._bytes = bytearray()
+        # what came at once, as long as whole frames can be cut out of it; then what is left
+        self._bytes: bytes | bytearray = b""
+        self._place = 0
 
     def __len__(self) -> int:
         """The bytes that aren't taken yet."""
-        return len(self._bytes)
+        return len(self._bytes) - self._place
 
     def add(self, data: bytes) -> None:
-        self._bytes += data
+        if self._place == len(self._bytes):
+            self._bytes, self._place = data, 0
+        else:
+            self._rest().extend(data)
+
+    def _rest(self) -> bytearray:
+        """What isn't taken yet, to which more is added."""
+        rest = self._bytes
+        if isinstance(rest, bytearray):
+            del rest[:self._place]
+        else:
+            rest = bytearray(memoryview(rest)[self._place:])
+        self._bytes, self._place = rest, 0
+        return rest
 
     def next(self, longest: int = LONGEST_FRAME) -> bytes | None:
         """The next whole frame. What can't begin one is Unreadable."""
-        if len(self._bytes) < 4:
-            return None
-        length = int.from_bytes(self._bytes[1:4], "big")
-        if self._bytes[0] or length > longest:
-            raise Unreadable
-        if len(self._bytes) < 4 + length:
-            return None
-        with memoryview(self._bytes) as whole:
-            frame = bytes(whole[4:4 + length])
-        del self._bytes[:4 + length]
-        return frame
+        data, start = self._bytes, self._place + 4
+        left = len(data) - start
+        if left >= 0:
+            length, = LENGTH.unpack_from(data, start - 4)
+            if length > longest:
+                raise Unreadable
+            if length <= left:
+                self._place = start + length
+                return data[start:start + length] if isinstance(data, bytes) else _cut(data, start, length)
+        self._keep_rest(left)
+        return None
+
+    def _keep_rest(self, left: int) -> None:
+        """What is taken isn't kept in memory."""
+        if left == -4:
+            self._bytes, self._place = b"", 0
+        elif self._place or not isinstance(self._bytes, bytearray):
+            self._rest()
+
+
+def _cut(data: bytearray, start: int, length: int) -> bytes:
+    with memoryview(data) as whole:
+        return bytes(whole[start:start + length])
 
 
 class Credits:
@@ -237,7 +280,9 @@ class Credits:
     def grant(self, request: int) -> int:
         """How many more there are; at least one where none is left."""
         known = self._high - self._low
-        given = min(request or 1, self.MOST - known) if known < self.MOST else 0
+        given, room = request or 1, self.MOST - known
+        if given > room:
+            given = room if room > 0 else 0
         if not given and known == len(self._used):
             given = 1
         self._high += given

@@ -25,6 +25,7 @@ class Record:
     def __init__(self, path: str | None) -> None:
         self.path = path
         self._stream: IO[str] | None = None
+        self.is_kept = bool(path)
         # the files that it has, by their numbers, with what they were called last
         self._files: dict[int, str] = {}
         self._long_files: set[int] = set()
@@ -117,7 +118,6 @@ class Record:
             self.fact(f"expired {client.number} {node.number}")
 
     def sent(self, client: ManagerClient) -> None:
-        client.sent += 1
         if self._has(client):
             self.fact(f"sent {client.number}")
 
@@ -158,3 +158,4 @@ class Record:
                     self.remark(f"left out: {count} {what}")
             self._stream.close()
             self._stream = None
+            self.is_kept = False

@@ -1,11 +1,11 @@
 """A request with what its header leads to."""
 from __future__ import annotations
 
-from dataclasses import dataclass
+import struct
 from typing import TYPE_CHECKING
 
 from smblease import Status
-from smblease.drive.headers import FILE_IDS, HEADER, PREVIOUS, Command, Unreadable
+from smblease.drive.headers import FILE_IDS, HEADER, Command, Unreadable
 from smblease.serve.faults_on_demand import Action
 from smblease.serve.opens import ManagerClient, Open
 from smblease.serve.packets import RequestMessage
@@ -18,26 +18,45 @@ if TYPE_CHECKING:
 
 WITHOUT_SESSION = {Command.NEGOTIATE, Command.SESSION_SETUP, Command.ECHO}
 WITHOUT_TREE = WITHOUT_SESSION | {Command.LOGOFF, Command.TREE_CONNECT}
+# Where a request has its FileId, and both halves of that; the one that means the open before it in its compound.
+PLACES: dict[Command | None, int] = {Command.OPLOCK_BREAK: HEADER + 8}
+PLACES.update(FILE_IDS.items())
+FILE_ID = struct.Struct("<QQ")
+PREVIOUS = (1 << 64) - 1
 
 
-@dataclass(eq=False)
 class Request:
-    message: RequestMessage
-    connection: Connection
-    server: Server
-    # of the compound: what its earlier requests had
-    session_id: int
-    tree_id: int
-    previous: int | None = None
-    # what somebody wanted to go wrong with it, or with its answer
-    fault: Action | None = None
-    _file_id: int | None = None
+    def __init__(self, message: RequestMessage, connection: Connection, session_id: int, tree_id: int,
+                 previous: int | None = None) -> None:
+        """Session, tree and the open before it are those that it has in its compound."""
+        self.message, self.connection, self.server = message, connection, connection.server
+        self.session_id, self.tree_id, self.previous = session_id, tree_id, previous
+        # what somebody wanted to go wrong with it, or with its answer
+        self.fault: Action | None = None
+        self._file_id: int | None = None
+        # its session and its tree where its handling begins
+        self.entered: Session | None = None
+        self.entered_tree: Tree | None = None
 
     @property
     def session(self) -> Session:
+        return self.session_now()
+
+    def session_now(self) -> Session:
         found = self.connection.sessions.get(self.session_id)
         if found is None or not found.is_ready:
             raise StatusError(Status.USER_SESSION_DELETED)
+        return found
+
+    def enter_session(self) -> Session:
+        """Its session, where its handling begins."""
+        self.entered = found = self.session_now()
+        return found
+
+    def enter_tree(self) -> Tree:
+        """Its tree, once its session is known."""
+        assert self.entered
+        self.entered_tree = found = self.tree_of(self.entered)
         return found
 
     @property
@@ -46,13 +65,18 @@ class Request:
 
     @property
     def tree(self) -> Tree:
-        return self._tree_of(self.session)
+        return self.tree_of(self.session)
 
-    def _tree_of(self, session: Session) -> Tree:
+    def tree_of(self, session: Session) -> Tree:
         found = session.trees.get(self.tree_id)
         if found is None:
             raise StatusError(Status.NETWORK_NAME_DELETED)
         return found
+
+    def has_tree(self) -> bool:
+        """Whether its session and its tree are there still."""
+        session = self.connection.sessions.get(self.session_id)
+        return session is not None and session.is_ready and self.tree_id in session.trees
 
     def require_tree(self) -> None:
         """Refuses a request without a tree."""
@@ -72,15 +96,20 @@ class Request:
         return self._file_id
 
     def _read_file_id(self) -> int:
-        is_oplock = self.message.command is Command.OPLOCK_BREAK
-        wire = (self.message.part(HEADER + 8, 16) if is_oplock else self.message.file_id) or bytes(16)
-        if wire == PREVIOUS and self.message.is_related:
-            if self.previous is None:
-                raise StatusError(Status.FILE_CLOSED)
-            return self.previous
-        if wire[:8] != wire[8:]:
+        place = PLACES.get(self.message.command)
+        if place is None:
+            return 0
+        try:
+            persistent, volatile = FILE_ID.unpack_from(self.message.data, place)
+        except struct.error:
+            raise Unreadable from None
+        if persistent != volatile:
             raise StatusError(Status.FILE_CLOSED)
-        return int.from_bytes(wire[:8], "little")
+        if persistent != PREVIOUS or not self.message.is_related:
+            return int(persistent)
+        if self.previous is None:
+            raise StatusError(Status.FILE_CLOSED)
+        return self.previous
 
     @property
     def named(self) -> int | None:
@@ -93,13 +122,14 @@ class Request:
             return None
 
     def find(self) -> Open | None:
-        """The request's open, which is its own connection's. A FileId that the shell doesn't know is left to the manager."""
+        """The request's open, which is its own connection's, where its handling begins. A FileId that the shell doesn't know is
+        left to the manager."""
+        connection = self.connection
         found = self.server.opens.get(self.file_id())
-        if found is None or found.connection is not self.connection and found.client is not self.connection.client:
+        if found is None or found.connection is not connection and found.client is not connection.client:
             return None
-        session = self.session
-        tree = self._tree_of(session)
-        if found.connection is not self.connection or found.session is not session or found.tree is not tree:
+        if found.connection is not connection or found.session is not self.entered or found.tree is not self.entered_tree:
+            self.require_tree()
             raise StatusError(Status.FILE_CLOSED)
         return found
 

@@ -90,8 +90,9 @@ class RequestLog:
 
     @staticmethod
     def begun(pending: Pending) -> None:
-        """What may be gone by the time of the answer."""
+        """What may be gone by the time of the answer, and what is decided until then."""
         request = pending.request
+        pending.decided = []
         pending.number, pending.name = request.connection.peer.number, _name(request)
 
     def answered(self, pending: Pending, answer: Answer) -> None:
@@ -102,7 +103,7 @@ class RequestLog:
         entry = Entry(datetime.now(timezone.utc).isoformat(timespec="microseconds"), number, connection.place, message.name,
                       message.identifier, pending.name, offset, length, name_of(answer.status),
                       waited=pending.async_id is not None, fault=request.fault.value if request.fault else None)
-        for decision in pending.task.decided if pending.task else ():
+        for decision in pending.decided or ():
             entry.add(decision)
         self._write(json.dumps(asdict(entry), ensure_ascii=False) if self._is_json else entry.text)
 

@@ -68,14 +68,16 @@ class Server:  # pylint: disable=too-many-instance-attributes  # its parts find 
 
     def sent(self, number: int) -> None:
         """The manager's client is sent a message."""
-        client = self.clients.numbered(number)
+        client = self.clients.by_number.get(number)
         if client:
-            self.record.sent(client)
+            client.sent += 1
+            if self.record.is_kept:
+                self.record.sent(client)
 
     def broken(self, decision: Breaks) -> None:
         client = self.clients.numbered(decision.client)
         if client and client.is_connected:
-            self.record.sent(client)
+            self.sent(decision.client)
             self.leases.broken(client, decision.notification)
 
     def ended(self, file_id: int) -> None:
@@ -109,7 +111,7 @@ class Server:  # pylint: disable=too-many-instance-attributes  # its parts find 
             return
         begun, self.begun = self.begun, []
         for pending in begun:
-            if pending.task and not pending.task.is_over:
+            if not pending.is_over:
                 pending.request.connection.send_interim_response(pending)
         if self.script:
             self.script.go_on()
@@ -249,9 +251,11 @@ class Server:  # pylint: disable=too-many-instance-attributes  # its parts find 
         if self.opens.pop(opened.file_id, None) is None:
             return
         node = opened.node
-        self.kept.let_go(opened)
+        if opened.timer:
+            self.kept.let_go(opened)
         node.opens.remove(opened)
-        self.host.resume(node.pauses)
+        if node.pauses:
+            self.host.resume(node.pauses)
         node.is_deleting = (node.is_deleting or opened.deletes) and not (node.is_folder and self.names.has_below(node))
         self._lease_gone(opened)
         if node.is_deleting and not node.opens and not node.is_gone:
@@ -265,9 +269,10 @@ class Server:  # pylint: disable=too-many-instance-attributes  # its parts find 
             LOG.warning("%s: it was to be deleted: %s", node.path, fault.strerror)
 
     def _lease_gone(self, opened: Open) -> None:
-        client, lease = opened.client, opened.lease
+        client = opened.client
         if client is None:
             return
+        lease = client.leases.get(opened.key) if opened.key else None
         if lease:
             lease.opens.pop(opened, None)
         if lease and not lease.opens:
@@ -280,7 +285,8 @@ class Server:  # pylint: disable=too-many-instance-attributes  # its parts find 
         client.opens -= 1
         if client.open is opened:
             self.free(client)
-        self._drop(client)
+        if not client.connections:
+            self._drop(client)
 
     def free(self, client: ManagerClient) -> None:
         """A client that was there for one open isn't needed any more."""
