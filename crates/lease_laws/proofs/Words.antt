@@ -105,7 +105,7 @@ pub use Rattle.lease_model.specs.server.Calls.{Call, after_first_try, arrived_be
 pub use Rattle.lease_model.specs.server.Calls.{disconnected, file_asked, file_of_create, file_of_open, file_request_arrived}
 pub use Rattle.lease_model.specs.server.Calls.{is_left_behind, is_lost, joined, key_expired, opens_disconnected}
 pub use Rattle.lease_model.specs.server.Calls.{outlives_connection}
-unfoldable pub use Rattle.lease_model.specs.server.Calls.{arrived, cut, expire, join, receive, scavenge}
+unfoldable pub use Rattle.lease_model.specs.server.Calls.{arrived, cut, expire, join, receive, scavenge, withdraw}
 pub use Rattle.lease_model.specs.server.Findings.{Finding, asked_finding, awaits, by_contexts, by_open, connected_open}
 pub use Rattle.lease_model.specs.server.Findings.{create_finding, is_leased_elsewhere, read_finding, reconnect_finding}
 pub use Rattle.lease_model.specs.server.Findings.{write_finding}
@@ -133,7 +133,7 @@ unfoldable pub use Rattle.lease_model.specs.values.Keys.{bytes_before, key_befor
 pub use Rattle.lease_model.specs.values.LeaseStates.{holds_any, meet, same_state, without_handle, without_write}
 pub use Rattle.lease_model.specs.values.Limits.{count_limit}
 unfoldable pub use Rattle.lease_model.specs.values.Limits.{files_limit, last_file_id, last_file_number, last_write_number}
-pub use Rattle.lease_model.specs.values.Lists.{is_empty, numbers_to, without}
+pub use Rattle.lease_model.specs.values.Lists.{has_marked, is_empty, numbers_to, unmarked, without}
 pub use Rattle.lease_model.specs.values.Patches.{is_within_limit, same_patch}
 pub use Rattle.lease_model.specs.values.Sharing.{may_read, may_write, same_access, same_share}
 unfoldable pub use Rattle.lease_model.specs.values.Tables.{numbered, put, put_key}

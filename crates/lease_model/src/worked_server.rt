@@ -1,5 +1,5 @@
 ghost use Rattle.lease_model.specs.worked.ServerCalls.{SharedCalls, SharedAllowed, LaterCalls, LaterAllowed, Acknowledgments};
-ghost use Rattle.lease_model.specs.worked.ServerCalls.{OddStates, TwoPasses};
+ghost use Rattle.lease_model.specs.worked.ServerCalls.{OddStates, TakenBack, TwoPasses};
 ghost use Rattle.lease_model.specs.worked.ServerBreaks.{KeysInOrder, OwnLeaseBroken, ReadsBrokenAtOnce, OneBreakForTwoWrites};
 ghost use Rattle.lease_model.specs.worked.ServerBreaks.{WriteHeldByBreakToReads, OneConflictBroken, HeldInOrder};
 ghost use Rattle.lease_model.specs.worked.ServerBreaks.{ExpiredUntilJoined};
@@ -29,6 +29,11 @@ pub fn odd_states()
 /// Held requests are tried again in passes, until a pass answers nothing.
 pub fn two_passes()
     ensures { TwoPasses }
+{}
+
+/// A request that waits is taken back, and the one behind it has its turn.
+pub fn requests_taken_back()
+    ensures { TakenBack }
 {}
 
 /// Which leases are broken, in which order, what goes on or waits while they are breaking, and what

@@ -16,6 +16,7 @@ use Rattle.lease_laws.proofs.server.Lists.{among_behind}
 use Rattle.lease_laws.proofs.server.OutLists.{each_append, go_on-same}
 use Rattle.lease_laws.proofs.server.OutSteps.{opens_dropped-outs}
 use Rattle.lease_laws.proofs.server.OutCalls.{request_held-outs, held_left-outs}
+use Rattle.lease_laws.proofs.server.Held.{requests_lost-there}
 use Rattle.lease_laws.proofs.server.StepCalls.{called-steps, call_begun-silent}
 use Rattle.lease_laws.proofs.server.cases.Calls.{any_call}
 use Rattle.lease_laws.proofs.server.cases.Ends.{HasEnds, any_end}
@@ -264,6 +265,10 @@ begun_full server call full = any_call server (λ call start after. HaveFullKeys
   expires = λ key breaks. timer_full key (opens_dropped (has_key key) (begun server))
       (dropped_full (has_key key) (begun server) full);
   scavenges = λ file_id left. dropped_full (is_left_behind file_id) (begun server) full;
+  withdraws = λ file marks some. record {
+    opens = full.opens;
+    held = λ other one a. full.held other one (requests_lost-there server file marks other one a);
+  };
 }) call
 
 pub replies_have_bytes : (server : Server) (call : Call) → IsSound server → WaitsWell server → HaveFullKeys server

@@ -19,7 +19,7 @@ use Rattle.lease_laws.proofs.server.Progress.{opens_dropped-sound, request_held-
 use Rattle.lease_laws.proofs.server.Ready.{ready-free}
 use Rattle.lease_laws.proofs.server.Steps.{connection_sound, with_connection, left_here}
 use Rattle.lease_laws.proofs.server.Tries.{IsGoodTry, tried_for-good}
-use Rattle.lease_laws.proofs.server.cases.Calls.{any_call, lease_lost, links_lost}
+use Rattle.lease_laws.proofs.server.cases.Calls.{any_call, lease_lost, links_lost, requests_lost}
 
 -- the first server
 pub new_server-sound : (rules : Rules) (contents : List (List ℕ)) → IsSound (new_server_under rules contents)
@@ -197,4 +197,5 @@ called-sound server call s = any_call server (λ call start after. IsSound after
   expires = λ key breaks. all_passes-sound (lease_lost server key) (lease_lost-sound server key s);
   scavenges = λ file_id left. all_passes-sound (opens_dropped (is_left_behind file_id) (begun server))
       (opens_dropped-sound (is_left_behind file_id) (begun server) s);
+  withdraws = λ file marks some. all_passes-sound (requests_lost server file marks) s;
 }) call

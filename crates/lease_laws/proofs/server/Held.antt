@@ -1,10 +1,12 @@
 -- The passes end: each but the last answers a held request, so that one more than are held is enough.
-use Rattle.lease_laws.proofs.Words.{◌++◌, ◌+◌, ◌<◌, ◌∙◌, ◌∷◌, ◌≡◌, ◌≤◌, Bool, Decides-eqb, FileRequest, Held}
-use Rattle.lease_laws.proofs.Words.{List, Open, Outcome, Pass, Progress, Tried, ℕ, [], ap}
+use Rattle.lease_laws.proofs.Words.{◌++◌, ◌+◌, ◌<◌, ◌==◌, ◌∙◌, ◌∷◌, ◌≡◌, ◌≤◌, Among, Bool, Decides-eqb, FileRequest, Held}
+use Rattle.lease_laws.proofs.Words.{List, Open, Outcome, Pass, Progress, Server, Tried, ℕ, [], ap}
 use Rattle.lease_laws.proofs.Words.{append-nil, append_assoc, arith, concluded}
 use Rattle.lease_laws.proofs.Words.{held_left, is_left_open, left_waiting, length}
 use Rattle.lease_laws.proofs.Words.{length-append, one_pass, opens_dropped, pass_answered, put, refl, sym}
-use Rattle.lease_laws.proofs.Words.{tried, tried_again, tried_for, true, true≢false}
+use Rattle.lease_laws.proofs.Words.{subst, tried, tried_again, tried_for, true, true≢false, unmarked}
+use Rattle.lease_laws.proofs.server.Lists.{among_unmarked, if_cases}
+use Rattle.lease_laws.proofs.server.cases.Calls.{requests_lost}
 use Rattle.lease_laws.proofs.server.cases.Tries.{HasTries, any_try}
 use Rattle.lease_laws.proofs.server.cases.Ends.{HasEnds, any_end}
 use Rattle.lease_laws.proofs.server.cases.Passes.{any_pass, any_try_again, pass_begun}
@@ -43,6 +45,15 @@ concluded-held client request progress = any_end client progress _ (ends_hold cl
 pub held_left-here : (file : ℕ) (left : List Held) (progress : Progress) → (held_left file left progress).server.held file ≡ left
 unfolding put
 held_left-here file left progress = rw ((Decides-eqb file file).1 refl) refl
+
+-- what still waits waited before
+pub requests_lost-there : (server : Server) (file : ℕ) (marks : List Bool) (other : ℕ) (one : Held)
+    → Among one ((requests_lost server file marks).server.held other) → Among one (server.held other)
+unfolding put
+requests_lost-there server file marks other one a = if_cases (λ left. Among one left → Among one (server.held other))
+    (other == file) (unmarked marks (server.held file)) (server.held other)
+    (λ here b. subst (λ f. Among one (server.held f)) (sym ((Decides-eqb other file).0 here))
+    (among_unmarked one marks (server.held file) b)) (λ apart b. b) a
 
 -- During a pass the file holds the requests passed over and those that wait, no more than there were;
 -- and one less once one was answered.

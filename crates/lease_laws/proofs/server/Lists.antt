@@ -2,7 +2,7 @@
 use Rattle.lease_laws.proofs.Words.{◌&&◌, ◌++◌, ◌||◌, ◌∙◌, ◌∷◌, ◌≡◌, ◌⊎◌, Among, Bool, List, Some, ⊎_elim, [], ap, cond, false}
 use Rattle.std.proofs.Common.{arith}
 use Rattle.lease_laws.proofs.Words.{filter, find, inl, inr, list_all, list_any, map, not, refl, sym, true, true≢false}
-use Rattle.lease_laws.proofs.Words.{ap₂}
+use Rattle.lease_laws.proofs.Words.{ap₂, unmarked}
 
 -- to choose by a test keeps what holds of both
 pub if_cases : {X : Type 0} (P : X → Type 0) (b : Bool) (x y : X) → (b ≡ true → P x) → (b ≡ false → P y) → P (cond b x y)
@@ -130,6 +130,15 @@ pub all_each : {X : Type 0} (test : X → Bool) (x : X) (xs : List X) → list_a
 all_each test x [] all a = absurd a
 all_each test x (y ∷ xs) all a = let parts = and_parts (test y) (list_all test xs) all in
     ⊎_elim (λ same. ap test same ∙ parts.0) (λ later. all_each test x xs parts.1 later) a
+
+-- what isn't marked is on the list
+pub among_unmarked : {X : Type 0} (x : X) (marks : List Bool) (xs : List X) → Among x (unmarked marks xs) → Among x xs
+among_unmarked x [] xs a = a
+among_unmarked x (mark ∷ marks) [] a = a
+among_unmarked x (mark ∷ marks) (y ∷ xs) a =
+    if_cases (λ left. Among x left → Among x (y ∷ xs)) mark (unmarked marks xs) (y ∷ unmarked marks xs)
+    (λ e b. inr (among_unmarked x marks xs b))
+    (λ e b. ⊎_elim (λ same. inl same) (λ later. inr (among_unmarked x marks xs later)) b) a
 
 -- two lists that begin and go on are one: so are their beginnings
 heads : {X : Type 0} (x y : X) (xs ys : List X) → x ∷ xs ≡ y ∷ ys → x ≡ y

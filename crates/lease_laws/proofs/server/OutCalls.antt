@@ -13,7 +13,7 @@ use Rattle.lease_laws.proofs.server.OutLists.{AreFair, IsGoodBreak, breaks_fair,
 use Rattle.lease_laws.proofs.server.OutLists.{go_on-weaker}
 use Rattle.lease_laws.proofs.server.OutSteps.{opens_dropped-outs, tried_for-broken, concluded-answered, acknowledged-answered}
 use Rattle.lease_laws.proofs.server.OutSteps.{refused-answered}
-use Rattle.lease_laws.proofs.server.cases.Calls.{any_call, lease_lost, links_lost}
+use Rattle.lease_laws.proofs.server.cases.Calls.{any_call, lease_lost, links_lost, requests_lost}
 use Rattle.lease_laws.proofs.server.cases.Passes.{any_try_again, passes_keep}
 
 -- for calls under way
@@ -146,6 +146,7 @@ called-fair server call = any_call server (λ call start after. Fair after) (rec
   scavenges = λ file_id left. all_passes-fair (opens_dropped (is_left_behind file_id) (begun server)) (silent_fair []
       (opens_dropped (is_left_behind file_id) (begun server)).outs
       (opens_dropped-outs (is_left_behind file_id) (begun server)) none_fair);
+  withdraws = λ file marks some. all_passes-fair (requests_lost server file marks) none_fair;
 }) call
 
 -- what a try gives out are breaks

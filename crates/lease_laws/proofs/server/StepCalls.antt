@@ -23,8 +23,8 @@ use Rattle.lease_laws.proofs.server.Lists.{if_cases, among_behind}
 use Rattle.lease_laws.proofs.server.Orderly.{IsFine, IsTry, any_try, held_well}
 use Rattle.lease_laws.proofs.server.PassWaits.{FileWaits, PassWaits, last_waits, more_wait, passes-wait}
 use Rattle.lease_laws.proofs.server.SmallSteps.{steps_none, step_one, steps_then, tried-steps, tried-guarded}
-use Rattle.lease_laws.proofs.server.WaitCalls.{joined-orderly, cut-fine, expired-fine, dropped-fine}
-use Rattle.lease_laws.proofs.server.cases.Calls.{IsIdle, any_call, lease_lost, links_lost}
+use Rattle.lease_laws.proofs.server.WaitCalls.{joined-orderly, cut-fine, expired-fine, dropped-fine, withdrawn-fine}
+use Rattle.lease_laws.proofs.server.cases.Calls.{IsIdle, any_call, lease_lost, links_lost, requests_lost}
 use Rattle.lease_laws.proofs.server.cases.Passes.{HasPasses, any_passes, any_try_again}
 use Rattle.lease_laws.proofs.server.Held.{answered-fewer}
 
@@ -256,6 +256,8 @@ called-steps server call s w =
       expires = λ key breaks. all_passes-steps (Call.Expire key) (lease_lost server key) (expired-fine server key fine);
       scavenges = λ file_id left. all_passes-steps (Call.Scavenge file_id)
           (opens_dropped (is_left_behind file_id) (begun server)) (dropped-fine (is_left_behind file_id) (begun server) fine);
+      withdraws = λ file marks some. all_passes-steps (Call.Withdraw file marks) (requests_lost server file marks)
+          (withdrawn-fine server file marks fine);
     }) call
 
 -- ---- the first part of a call gives nothing out
@@ -269,6 +271,7 @@ call_begun-silent server call = any_call server (λ call start after. start.outs
   cuts = λ client up. refl;
   expires = λ key breaks. refl;
   scavenges = λ file_id left. refl;
+  withdraws = λ file marks some. refl;
 }) call
 
 -- ---- and leaves the laws, and who is connected
@@ -294,4 +297,5 @@ call_begun-up server call s w =
       expires = λ key breaks. well (lease_lost server key) (expired-fine server key fine);
       scavenges = λ file_id left. well (opens_dropped (is_left_behind file_id) (begun server))
           (dropped-fine (is_left_behind file_id) (begun server) fine);
+      withdraws = λ file marks some. well (requests_lost server file marks) (withdrawn-fine server file marks fine);
     }) call

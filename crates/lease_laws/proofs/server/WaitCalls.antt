@@ -15,14 +15,14 @@ use Rattle.lease_laws.proofs.server.Keys.{is_key-one, is_key-refl}
 use Rattle.lease_laws.proofs.server.Arrivals.{acknowledged-waits, everyone_keeps, file_request-waits, fine_goes, new_server-waits}
 use Rattle.lease_laws.proofs.server.Calls.{joined-sound, lease_lost-sound, links_lost-sound}
 use Rattle.lease_laws.proofs.server.Goes.{Goes, dropped-goes}
-use Rattle.lease_laws.proofs.server.Held.{SameHeld, dropped_held}
+use Rattle.lease_laws.proofs.server.Held.{SameHeld, dropped_held, requests_lost-there}
 use Rattle.lease_laws.proofs.server.Keeps.{Kept, Anywhere, connected_has}
 use Rattle.lease_laws.proofs.server.Lists.{if_cases, clash, not_parts, among_filter, among_map}
 use Rattle.lease_laws.proofs.server.Lists.{among_behind}
 use Rattle.lease_laws.proofs.server.Orderly.{IsFine}
 use Rattle.lease_laws.proofs.server.PassWaits.{EveryoneWaits, all_passes-wait}
 use Rattle.lease_laws.proofs.server.Progress.{opens_dropped-sound}
-use Rattle.lease_laws.proofs.server.cases.Calls.{any_call, lease_lost, links_lost}
+use Rattle.lease_laws.proofs.server.cases.Calls.{any_call, lease_lost, links_lost, requests_lost}
 
 -- a client that is connected stays so when another joins
 put_true : (up : ℕ → Bool) (client other : ℕ) → up other ≡ true → put up client true other ≡ true
@@ -152,6 +152,20 @@ cut_orderly client progress o =
       held_about = λ file one a. cut_about client file one.request progress (o.held_about file one (left file one a).0);
     }
 
+-- to take requests back: what a FileId is about stays
+left_about_open : (server : Server) (file : ℕ) (marks : List Bool) (other file_id : ℕ) → IsOpenOn server other file_id
+    → IsOpenOn (requests_lost server file marks).server other file_id
+left_about_open server file marks other file_id o = record { was_given = o.was_given; is_on_file = o.is_on_file }
+
+-- and what a request is about
+left_about : (server : Server) (file : ℕ) (marks : List Bool) (other : ℕ) (request : FileRequest)
+    → IsAbout server other request → IsAbout (requests_lost server file marks).server other request
+left_about server file marks other (FileRequest.Create at access share contexts) about = about
+left_about server file marks other (FileRequest.Read file_id) about = left_about_open server file marks other file_id about
+left_about server file marks other (FileRequest.Write file_id number patch) about =
+    left_about_open server file marks other file_id about
+left_about server file marks other (FileRequest.Close file_id) about = left_about_open server file marks other file_id about
+
 -- to lose a client's links keeps the laws and the order
 pub cut-fine : (server : Server) (client : ℕ) → IsFine server → IsFine (links_lost server client).server
 cut-fine server client fine = record {
@@ -159,6 +173,22 @@ cut-fine server client fine = record {
   orderly = cut_orderly client (opens_dropped (is_lost server client) (begun server))
       (dropped-fine (is_lost server client) (begun server) fine).orderly;
 }
+
+-- to take requests back keeps the laws and the order
+pub withdrawn-fine : (server : Server) (file : ℕ) (marks : List Bool) → IsFine server
+    → IsFine (requests_lost server file marks).server
+withdrawn-fine server file marks fine =
+    let left = requests_lost-there server file marks in record {
+      sound = fine.sound;
+      orderly = record {
+        opens_up = fine.orderly.opens_up;
+        open_files = fine.orderly.open_files;
+        held_up = λ other one a. fine.orderly.held_up other one (left other one a);
+        held_files = λ other one a. fine.orderly.held_files other one (left other one a);
+        held_about = λ other one a. left_about server file marks other one.request
+            (fine.orderly.held_about other one (left other one a));
+      };
+    }
 
 -- every call leaves each first held request waiting
 pub called-waits : (server : Server) (call : Call) → EveryoneWaits server → EveryoneWaits (called server call).server
@@ -171,6 +201,7 @@ called-waits server call e = any_call server (λ call start after. EveryoneWaits
   expires = λ key breaks. all_passes-wait (lease_lost server key) (expired-fine server key e.fine);
   scavenges = λ file_id left. all_passes-wait (opens_dropped (is_left_behind file_id) (begun server))
       (dropped-fine (is_left_behind file_id) (begun server) e.fine);
+  withdraws = λ file marks some. all_passes-wait (requests_lost server file marks) (withdrawn-fine server file marks e.fine);
 }) call
 
 -- the first server waits well

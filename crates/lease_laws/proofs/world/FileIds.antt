@@ -194,6 +194,7 @@ begun_same server call = any_call server (λ call start after. AllSame server st
   cuts = λ client up. (refl, cut_same server client);
   expires = λ key breaks. (refl, left_same server (has_key key));
   scavenges = λ file_id left. (refl, left_same server (is_left_behind file_id));
+  withdraws = λ file marks some. (refl, here server);
 }) call
 
 pub begun_counted : (past : List Fact) (server : Server) (call : Call) → IsCounted past server

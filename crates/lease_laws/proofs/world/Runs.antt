@@ -165,6 +165,7 @@ begun_contents server call = any_call server (λ call start after. start.server.
   cuts = λ client up. refl;
   expires = λ key breaks. refl;
   scavenges = λ file_id left. refl;
+  withdraws = λ file marks some. refl;
 }) call
 
 called_fits : (server : Server) (call : Call) → IsSound server → WaitsWell server → DoFit server.contents

@@ -17,6 +17,7 @@ use Rattle.lease_model.specs.server.Calls.{key_expired, is_left_behind}
 use Rattle.lease_model.specs.server.Findings.{awaits, connected_open}
 use Rattle.lease_model.specs.server.Naming.{own_key}
 use Rattle.lease_model.specs.server.Progress.{Progress, begun, opens_dropped, lease_lowered, break_begun, request_held, held_left}
+use Rattle.lease_model.specs.values.Lists.{unmarked, has_marked}
 use Rattle.lease_model.specs.server.State.{Server, Open, Lease, Held, has_file, has_key, has_own_key, has_lease, is_breaking}
 use Rattle.lease_model.specs.server.Lanes.{as_held, is_behind, lane_of}
 use Rattle.lease_model.specs.values.Keys.{Key}
@@ -225,6 +226,10 @@ call_begun server (Call.Expire key) =
 call_begun server (Call.Scavenge file_id) =
     if list_any (is_left_behind file_id) server.opens
     then opens_dropped (is_left_behind file_id) (begun server)
+    else begun server
+call_begun server (Call.Withdraw file marks) =
+    if has_marked marks (server.held file)
+    then held_left file (unmarked marks (server.held file)) (begun server)
     else begun server
 
 -- Every call goes by guarded small steps.

@@ -1,15 +1,16 @@
--- The calls of the server: a client's connection comes or goes, a request comes, a timer runs out.
+-- The calls of the server: a client's connection comes or goes, a request comes or is taken back, a timer runs out.
 -- A call that doesn't apply changes nothing and gives nothing out.
-use Rattle.std.specs.Prelude.{ℕ, Bool, true, false, Option, Some, None, [], map, Result, Ok, Err, if◌then◌else◌, ◌==◌, ◌&&◌, not}
+use Rattle.std.specs.Prelude.{ℕ, Bool, true, false, Option, Some, None, List, [], map, Result, Ok, Err, if◌then◌else◌, ◌==◌, ◌&&◌}
+use Rattle.std.specs.Prelude.{not}
 use Rattle.std.specs.List.{list_any}
 use Rattle.lease_state.specs.declared.status.Status.{Status}
 use Rattle.lease_model.specs.server.Acknowledge.{acknowledged}
 use Rattle.lease_model.specs.server.Answers.{concluded}
 use Rattle.lease_model.specs.server.Attempt.{Outcome, tried}
 use Rattle.lease_model.specs.values.Keys.{Key}
-use Rattle.lease_model.specs.values.Lists.{without}
+use Rattle.lease_model.specs.values.Lists.{without, unmarked, has_marked}
 use Rattle.lease_model.specs.server.Passes.{all_passes}
-use Rattle.lease_model.specs.server.Progress.{Progress, begun, stepped, opens_dropped, request_held, refused}
+use Rattle.lease_model.specs.server.Progress.{Progress, begun, stepped, opens_dropped, request_held, held_left, refused}
 use Rattle.lease_model.specs.messages.Requests.{FileRequest, Request, CreateAsk}
 use Rattle.lease_model.specs.server.State.{Server, Open, Held, has_file, has_key, is_breaking}
 use Rattle.lease_model.specs.server.Lanes.{as_held, is_behind}
@@ -132,6 +133,14 @@ scavenge server file_id =
     then all_passes (opens_dropped (is_left_behind file_id) (begun server))
     else begun server
 
+-- Requests that wait are taken back (3.3.5.16): those on the file that are marked, place by place, wait no longer. What
+-- waits behind them is tried again.
+unfoldable pub withdraw : Server → ℕ → List Bool → Progress
+withdraw server file marks =
+    if has_marked marks (server.held file)
+    then all_passes (held_left file (unmarked marks (server.held file)) (begun server))
+    else begun server
+
 -- any call
 pub data Call : Type 0 where
   Join : (client : ℕ) → Call
@@ -139,6 +148,7 @@ pub data Call : Type 0 where
   Cut : (client : ℕ) → Call
   Expire : (key : Key) → Call
   Scavenge : (file_id : ℕ) → Call
+  Withdraw : (file : ℕ) (marks : List Bool) → Call
 
 abbrev pub called : Server → Call → Progress
 called server (Call.Join client) = join server client
@@ -146,3 +156,4 @@ called server (Call.Receive client request) = receive server client request
 called server (Call.Cut client) = cut server client
 called server (Call.Expire key) = expire server key
 called server (Call.Scavenge file_id) = scavenge server file_id
+called server (Call.Withdraw file marks) = withdraw server file marks

@@ -1,5 +1,5 @@
 -- Worked calls of a server: a lease that is broken for another client, acknowledgments, and passes.
-use Rattle.std.specs.Prelude.{◌≡◌, ℕ, true, false, None, Some, List, [], ◌∷◌, map}
+use Rattle.std.specs.Prelude.{◌≡◌, ℕ, true, false, None, Some, List, [], ◌∷◌, map, take}
 use Rattle.lease_state.specs.State.{State, state_of_bits, nothing_cached}
 use Rattle.lease_state.specs.declared.access.Access.{Access}
 use Rattle.lease_state.specs.declared.access.Share.{Share}
@@ -157,4 +157,19 @@ TwoPasses = outs_along two_files waiting_calls ≡
     ∷ Out.Sent 2 (Reply.Closed 1)
     ∷ Out.Sent 1 (Reply.CreateFailed 1 Status.SharingViolation)
     ∷ [])
+    ∷ []
+
+-- Of those that wait the write is taken back: it is never done, and the close that waited behind it is answered. Later one
+-- waits, and a mark at another place marks none.
+abbrev pub TakenBack : Type 0
+TakenBack = outs_along (server_after two_files (take 8 waiting_calls))
+    (Call.Withdraw 1 (false ∷ true ∷ [])
+    ∷ Call.Withdraw 1 (false ∷ true ∷ [])
+    ∷ Call.Receive 3 (acknowledging sample_key R)
+    ∷ [])
+    ≡
+    (Out.Sent 2 (Reply.Closed 1) ∷ [])
+    ∷ []
+    ∷ (Out.Sent 3 (done_acknowledging sample_key R)
+    ∷ Out.Sent 1 (Reply.CreateFailed 1 Status.SharingViolation) ∷ [])
     ∷ []

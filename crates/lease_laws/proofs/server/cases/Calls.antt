@@ -1,10 +1,11 @@
 -- What a call makes of a server: each of the ways, with what is known of it, what it begins with and what it comes to.
 -- Whatever holds of each way holds of every call.
-use Rattle.lease_laws.proofs.Words.{◌≡◌, Bool, Call, FileRequest, Key, LeaseOf, Option, Progress, Request, Server, ℕ}
+use Rattle.lease_laws.proofs.Words.{◌≡◌, Bool, Call, FileRequest, Key, LeaseOf, List, Option, Progress, Request, Server, ℕ}
 use Rattle.lease_laws.proofs.Words.{acknowledged, all_passes, arrived, begun, call_begun, called, client_forgotten, cut, expire}
-use Rattle.lease_laws.proofs.Words.{false, file_request_arrived, has_key, if◌then◌else◌, is_breaking, is_left_behind, is_lost}
+use Rattle.lease_laws.proofs.Words.{false, file_request_arrived, has_key, has_marked, held_left, if◌then◌else◌, is_breaking}
+use Rattle.lease_laws.proofs.Words.{is_left_behind, is_lost}
 use Rattle.lease_laws.proofs.Words.{join, joined, key_expired, list_any, opens_disconnected, opens_dropped, receive, refl}
-use Rattle.lease_laws.proofs.Words.{scavenge, true}
+use Rattle.lease_laws.proofs.Words.{scavenge, true, unmarked, withdraw}
 
 -- why a call does nothing
 abbrev pub IsIdle : Server → Call → Type 0
@@ -13,14 +14,18 @@ IsIdle server (Call.Receive client request) = server.present client ≡ false
 IsIdle server (Call.Cut client) = server.present client ≡ false
 IsIdle server (Call.Expire key) = is_breaking (server.leases key) ≡ false
 IsIdle server (Call.Scavenge file_id) = list_any (is_left_behind file_id) server.opens ≡ false
+IsIdle server (Call.Withdraw file marks) = has_marked marks (server.held file) ≡ false
 
--- what a cut and an expiry do before held requests are tried again
+-- what a cut, an expiry and a withdrawal do before held requests are tried again
 abbrev pub links_lost : Server → ℕ → Progress
 links_lost server client =
     client_forgotten client (opens_disconnected client (opens_dropped (is_lost server client) (begun server)))
 
 abbrev pub lease_lost : Server → Key → Progress
 lease_lost server key = key_expired key (opens_dropped (has_key key) (begun server))
+
+abbrev pub requests_lost : Server → ℕ → List Bool → Progress
+requests_lost server file marks = held_left file (unmarked marks (server.held file)) (begun server)
 
 pub record HasCalls (server : Server) (P : Call → Progress → Progress → Type 0) : Type 0 where
   pub idle : (call : Call) → IsIdle server call → P call (begun server) (begun server)
@@ -38,6 +43,8 @@ pub record HasCalls (server : Server) (P : Call → Progress → Progress → Ty
   pub scavenges : (file_id : ℕ) → list_any (is_left_behind file_id) server.opens ≡ true
       → P (Call.Scavenge file_id) (opens_dropped (is_left_behind file_id) (begun server))
       (all_passes (opens_dropped (is_left_behind file_id) (begun server)))
+  pub withdraws : (file : ℕ) (marks : List Bool) → has_marked marks (server.held file) ≡ true
+      → P (Call.Withdraw file marks) (requests_lost server file marks) (all_passes (requests_lost server file marks))
 
 -- a call that applies, or doesn't
 either_way : (P : Progress → Progress → Type 0) (applies : Bool) (start after start_idle after_idle : Progress)
@@ -57,7 +64,7 @@ received server P h client (Request.OnFile request) true e = h.receives client r
 
 pub any_call : (server : Server) (P : Call → Progress → Progress → Type 0) → HasCalls server P → (call : Call)
     → P call (call_begun server call) (called server call)
-unfolding join receive cut expire scavenge
+unfolding join receive cut expire scavenge withdraw
 any_call server P h (Call.Join client) = either_way (P (Call.Join client)) (server.present client) (begun server)
     (begun server) _ _ (h.idle (Call.Join client)) (h.joins client)
 any_call server P h (Call.Receive client request) = received server P h client request (server.present client) refl
@@ -67,6 +74,8 @@ any_call server P h (Call.Expire key) = either_way (P (Call.Expire key)) (is_bre
     (h.expires key) (h.idle (Call.Expire key))
 any_call server P h (Call.Scavenge file_id) = either_way (P (Call.Scavenge file_id))
     (list_any (is_left_behind file_id) server.opens) _ _ _ _ (h.scavenges file_id) (h.idle (Call.Scavenge file_id))
+any_call server P h (Call.Withdraw file marks) = either_way (P (Call.Withdraw file marks))
+    (has_marked marks (server.held file)) _ _ _ _ (h.withdraws file marks) (h.idle (Call.Withdraw file marks))
 
 -- ---- single calls
 
