@@ -63,3 +63,4 @@ bare_call (Call.Receive client request) = Call.Receive client (bare_of request)
 bare_call (Call.Cut client) = Call.Cut client
 bare_call (Call.Expire key) = Call.Expire key
 bare_call (Call.Scavenge file_id) = Call.Scavenge file_id
+bare_call (Call.Withdraw file marks) = Call.Withdraw file marks

@@ -5,7 +5,7 @@ use Rattle.lease_model.specs.messages.Requests.{FileRequest}
 use Rattle.lease_model.specs.server.State.{Open}
 use Rattle.manager_model.specs.Bare.{bare_request}
 use Rattle.manager_model.specs.Decisions.{Decision}
-use Rattle.manager_model.specs.Handling.{Manager, Tagged, is_open, withdraw}
+use Rattle.manager_model.specs.Handling.{Manager, Tagged, is_open}
 use Rattle.manager_model.specs.Hosting.{Coming, managed}
 
 -- a request that waits
@@ -23,14 +23,8 @@ IsToldOf Asked told file_id = Among (Decision.Ended file_id) told
     ⊎ ((one : Tagged) × Asked one × (one.held.request ≡ FileRequest.Close file_id)
     × Among (Decision.Closed one.held.client one.tag) told)
 
--- So it is of each open that is there before a call and isn't after it,
+-- So it is of each open that is there before a call and isn't after it.
 abbrev pub EndsAreTold : Type 0
 EndsAreTold = (manager : Manager) (coming : Coming) (one : Open) → Among one manager.server.opens
     → is_open (managed manager coming).manager.server one ≡ false
     → IsToldOf (WasAsked manager coming) (managed manager coming).told one.file_id
-
--- and where a request is withdrawn.
-abbrev pub EndsByWithdrawalAreTold : Type 0
-EndsByWithdrawalAreTold = (manager : Manager) (file client tag : ℕ) (one : Open) → Among one manager.server.opens
-    → is_open (withdraw manager file client tag).manager.server one ≡ false
-    → IsToldOf (Waited manager) (withdraw manager file client tag).told one.file_id

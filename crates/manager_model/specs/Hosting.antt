@@ -13,7 +13,8 @@ use Rattle.lease_model.specs.values.Keys.{Key}
 use Rattle.lease_model.specs.values.Tables.{put}
 use Rattle.manager_model.specs.Bare.{bare, bare_held, bare_request}
 use Rattle.manager_model.specs.Decisions.{Decision}
-use Rattle.manager_model.specs.Handling.{Handling, Manager, Tagged, acknowledge, cut, expire, join, receive, scavenge}
+use Rattle.manager_model.specs.Handling.{Handling, Manager, Tagged, acknowledge, cut, expire, is_under, join, receive, scavenge}
+use Rattle.manager_model.specs.Handling.{withdraw}
 
 -- A host: the bytes of its files, and of each open, by its FileId, the file.
 pub record Host : Type 0 where
@@ -114,6 +115,7 @@ pub data Coming : Type 0 where
   IsCut : (client : ℕ) → Coming
   Expires : (key : Key) → Coming
   Scavenges : (file_id : ℕ) → Coming
+  Withdraws : (file client tag : ℕ) → Coming
 
 -- the manager isn't told the bytes
 abbrev pub managed : Manager → Coming → Handling
@@ -123,15 +125,17 @@ managed manager (Coming.Acknowledges client given) = acknowledge manager client 
 managed manager (Coming.IsCut client) = cut manager client
 managed manager (Coming.Expires key) = expire manager key
 managed manager (Coming.Scavenges file_id) = scavenge manager file_id
+managed manager (Coming.Withdraws file client tag) = withdraw manager file client tag
 
--- the call of the server
-abbrev pub call_of : Coming → Call
-call_of (Coming.Joins client) = Call.Join client
-call_of (Coming.Asks client tag request) = Call.Receive client (Request.OnFile request)
-call_of (Coming.Acknowledges client given) = Call.Receive client (Request.Acknowledge given)
-call_of (Coming.IsCut client) = Call.Cut client
-call_of (Coming.Expires key) = Call.Expire key
-call_of (Coming.Scavenges file_id) = Call.Scavenge file_id
+-- The call of the server. What is withdrawn is marked where it waits, and it waits on the server where it waits here.
+abbrev pub call_of : Manager → Coming → Call
+call_of manager (Coming.Joins client) = Call.Join client
+call_of manager (Coming.Asks client tag request) = Call.Receive client (Request.OnFile request)
+call_of manager (Coming.Acknowledges client given) = Call.Receive client (Request.Acknowledge given)
+call_of manager (Coming.IsCut client) = Call.Cut client
+call_of manager (Coming.Expires key) = Call.Expire key
+call_of manager (Coming.Scavenges file_id) = Call.Scavenge file_id
+call_of manager (Coming.Withdraws file client tag) = Call.Withdraw file (map (is_under client tag) (manager.queues file))
 
 -- what the host has then asked under each tag
 abbrev pub asked_by : (ℕ → FileRequest) → Coming → ℕ → FileRequest
@@ -164,11 +168,15 @@ hosted_along requests manager host (coming ∷ comings) =
     ∷ hosted_along (asked_by requests coming) (managed manager coming).manager
     (hosted (asked_by requests coming) host (managed manager coming)).host comings
 
+-- the calls of the server
+abbrev pub calls_along : Manager → List Coming → List Call
+calls_along manager [] = []
+calls_along manager (coming ∷ comings) = call_of manager coming ∷ calls_along (managed manager coming).manager comings
+
 -- what a server gives out for each
-abbrev pub given_along : Server → List Coming → List (List Out)
+abbrev pub given_along : Server → List Call → List (List Out)
 given_along server [] = []
-given_along server (coming ∷ comings) =
-    (called server (call_of coming)).outs ∷ given_along (called server (call_of coming)).server comings
+given_along server (call ∷ calls) = (called server call).outs ∷ given_along (called server call).server calls
 
 -- a server of these rules with these files, that no client has joined
 abbrev pub fresh_server : Rules → ℕ → (ℕ → List ℕ) → Server

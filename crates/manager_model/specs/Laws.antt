@@ -1,19 +1,14 @@
 -- What forgetting the bytes leaves as it is.
-use Rattle.std.specs.Prelude.{◌≡◌, ℕ, ◌<◌, true, List, length, map, if◌then◌else◌}
+use Rattle.std.specs.Prelude.{◌≡◌, ℕ, ◌<◌, true, List, length}
 use Rattle.lease_model.specs.server.Calls.{Call, called}
-use Rattle.std.specs.List.{list_any}
-use Rattle.lease_model.specs.server.Passes.{all_passes as server_passes}
-use Rattle.lease_model.specs.server.Progress.{Progress, begun, held_left}
 use Rattle.lease_model.specs.server.State.{Server}
-use Rattle.lease_model.specs.values.Lists.{without}
 use Rattle.manager_model.specs.Bare.{bare, bare_call, bare_progress}
 use Rattle.lease_model.specs.messages.Requests.{FileRequest}
 use Rattle.lease_state.specs.declared.rules.Rules.{Rules}
-use Rattle.manager_model.specs.Hosting.{AreServer, Coming, HasFreeTag, HaveFreeTags, Host, asked_by, call_of, filled}
+use Rattle.manager_model.specs.Hosting.{AreServer, Coming, HasFreeTag, HaveFreeTags, Host, asked_by, call_of, calls_along}
 use Rattle.manager_model.specs.Hosting.{fresh_manager}
 use Rattle.manager_model.specs.Hosting.{fresh_server, given_along, hosted, hosted_along, managed}
-use Rattle.manager_model.specs.Handling.{Handling, Manager, all_passes, is_under, one_pass, passes, passes_for}
-use Rattle.manager_model.specs.Handling.{passes_over, withdraw}
+use Rattle.manager_model.specs.Handling.{Handling, Manager, all_passes, one_pass, passes, passes_for, passes_over}
 use Rattle.manager_model.specs.Waiting.{AreWaitingFiles}
 
 -- A call of a server without bytes makes of it, and gives out, what the call makes of the server, and gives out, without
@@ -47,29 +42,12 @@ abbrev pub HostsAreServers : Type 0
 HostsAreServers = (requests : ℕ → FileRequest) (manager : Manager) (host : Host) (server : Server) (coming : Coming)
     → AreServer requests manager host server → HasFreeTag manager coming
     → AreServer (asked_by requests coming) (managed manager coming).manager
-    (hosted (asked_by requests coming) host (managed manager coming)).host (called server (call_of coming)).server
-    × ((hosted (asked_by requests coming) host (managed manager coming)).outs ≡ (called server (call_of coming)).outs)
-
--- What is withdrawn waits no longer on its server either: what still waits is tried again there.
-abbrev pub withdrawn_from : (ℕ → FileRequest) → Manager → ℕ → ℕ → ℕ → Server → Progress
-withdrawn_from requests manager file client tag server =
-    if list_any (is_under client tag) (manager.queues file)
-    then server_passes (held_left file (map (filled requests) (without (is_under client tag) (manager.queues file)))
-    (begun server))
-    else begun server
-
-abbrev pub WithdrawalsAreServed : Type 0
-WithdrawalsAreServed = (requests : ℕ → FileRequest) (manager : Manager) (host : Host) (server : Server) (file client tag : ℕ)
-    → AreServer requests manager host server
-    → AreServer requests (withdraw manager file client tag).manager
-    (hosted requests host (withdraw manager file client tag)).host
-    (withdrawn_from requests manager file client tag server).server
-    × ((hosted requests host (withdraw manager file client tag)).outs
-    ≡ (withdrawn_from requests manager file client tag server).outs)
+    (hosted (asked_by requests coming) host (managed manager coming)).host (called server (call_of manager coming)).server
+    × ((hosted (asked_by requests coming) host (managed manager coming)).outs ≡ (called server (call_of manager coming)).outs)
 
 -- So it is along every list of what comes, from the first on.
 abbrev pub RunsOfHosts : Type 0
 RunsOfHosts = (rules : Rules) (files : ℕ) (contents : ℕ → List ℕ) (handles : ℕ → ℕ) (requests : ℕ → FileRequest)
     (comings : List Coming) → HaveFreeTags (fresh_manager rules files) comings
     → hosted_along requests (fresh_manager rules files) (record { contents = contents; handles = handles }) comings
-    ≡ given_along (fresh_server rules files contents) comings
+    ≡ given_along (fresh_server rules files contents) (calls_along (fresh_manager rules files) comings)

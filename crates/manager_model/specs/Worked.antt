@@ -10,7 +10,7 @@ use Rattle.lease_model.specs.worked.ServerWords.{two_files}
 use Rattle.lease_model.specs.worked.ValueWords.{RH, RWH, at, sample_key, later_key}
 use Rattle.manager_model.specs.Bare.{bare}
 use Rattle.manager_model.specs.Decisions.{Decision}
-use Rattle.manager_model.specs.Handling.{Manager, withdraw}
+use Rattle.manager_model.specs.Handling.{Manager}
 use Rattle.manager_model.specs.Hosting.{Coming, Host, asked_by, hosted, managed}
 
 -- The manager of a server with two files, and its host: `abc` is in file 1.
@@ -92,12 +92,13 @@ waiting_calls =
     ∷ []
 
 abbrev pub WithdrawnIsTold : Type 0
-WithdrawnIsTold = (withdraw (manager_after first_manager waiting_calls) 1 2 20).told ≡ Decision.Withdrawn 2 20 ∷ []
+WithdrawnIsTold = told_along (manager_after first_manager waiting_calls)
+    (Coming.Withdraws 1 2 20 ∷ Coming.Acknowledges 1 (Some (acknowledged sample_key RH)) ∷ [])
+    ≡ (Decision.Withdrawn 2 20 ∷ []) ∷ (Decision.Acknowledged 1 (acknowledged sample_key RH) ∷ []) ∷ []
 
-abbrev pub WithdrawnIsGone : Type 0
-WithdrawnIsGone = told_along (withdraw (manager_after first_manager waiting_calls) 1 2 20).manager
-    (Coming.Acknowledges 1 (Some (acknowledged sample_key RH)) ∷ [])
-    ≡ (Decision.Acknowledged 1 (acknowledged sample_key RH) ∷ []) ∷ []
+-- one that doesn't wait isn't
+abbrev pub NoneIsWithdrawn : Type 0
+NoneIsWithdrawn = told_along (manager_after first_manager waiting_calls) (Coming.Withdraws 1 2 21 ∷ []) ≡ [] ∷ []
 
 -- A durable open is left behind when its client is cut. It ends when another client opens the file, whose own open isn't
 -- durable, and ends when that client is cut.
@@ -119,7 +120,3 @@ LeftIsTold = told_along first_manager left_calls ≡
     ∷ (Decision.Ended 1 ∷ Decision.Opened 2 20 2 (lease_of later_key RWH) ∷ [])
     ∷ (Decision.Ended 2 ∷ [])
     ∷ []
-
--- one that doesn't wait isn't
-abbrev pub NoneIsWithdrawn : Type 0
-NoneIsWithdrawn = (withdraw (manager_after first_manager waiting_calls) 1 2 21).told ≡ []

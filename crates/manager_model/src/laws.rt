@@ -1,7 +1,7 @@
 ghost use Rattle.manager_model.specs.Answering.{AnswersComeOnce, WaitersWereAsked};
-ghost use Rattle.manager_model.specs.Ending.{EndsAreTold, EndsByWithdrawalAreTold};
+ghost use Rattle.manager_model.specs.Ending.{EndsAreTold};
 ghost use Rattle.manager_model.specs.Laws.{BytesDecideNothing, FilesAreEnough, HostsAreServers, PassesAnswer, PassesAreEnough};
-ghost use Rattle.manager_model.specs.Laws.{RunsOfHosts, WithdrawalsAreServed};
+ghost use Rattle.manager_model.specs.Laws.{RunsOfHosts};
 
 /// The calls of a server decide nothing by the bytes of files, nor by those of writes or their numbers, but whether a write ends
 /// within the limit of a file: each does to a server that has forgotten them what it does to the server itself, and gives out the
@@ -23,15 +23,13 @@ pub fn law_of_passes()
 /// and of each open the file; `GoesOn` copies the bytes of a file or patches them, and nothing else changes one. Does nothing.
 pub fn law_of_hosts()
     ensures calls { HostsAreServers }
-    ensures withdrawals { WithdrawalsAreServed }
     ensures runs { RunsOfHosts }
 {}
 
-/// A host learns which opens are no more: of each that is there before a call, or before a request is withdrawn, and isn't after
-/// it, a decision says that it ended, or that a close is done that was asked for it. Does nothing.
+/// A host learns which opens are no more: of each that is there before a call and isn't after it, a decision says that it
+/// ended, or that a close is done that was asked for it. Does nothing.
 pub fn law_of_ends()
-    ensures calls { EndsAreTold }
-    ensures withdrawals { EndsByWithdrawalAreTold }
+    ensures { EndsAreTold }
 {}
 
 /// A request is answered under its tag at most once, and waits no longer then, and what waits was asked: a host that carried out a

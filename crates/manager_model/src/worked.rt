@@ -1,4 +1,4 @@
-ghost use Rattle.manager_model.specs.Worked.{LeftIsTold, NoneIsWithdrawn, SharedIsTold, WithdrawnIsGone, WithdrawnIsTold};
+ghost use Rattle.manager_model.specs.Worked.{LeftIsTold, NoneIsWithdrawn, SharedIsTold, WithdrawnIsTold};
 ghost use Rattle.manager_model.specs.Worked.{WriteIsThere};
 
 /// Two clients share a file: the second one's create waits until the first one has flushed and has acknowledged the break of its
@@ -11,7 +11,6 @@ pub fn managers_tell_by_tags()
 /// A create that waits is withdrawn: a decision says so, and none follows for it. One that doesn't wait isn't. Does nothing.
 pub fn managers_withdraw()
     ensures told { WithdrawnIsTold }
-    ensures gone { WithdrawnIsGone }
     ensures none { NoneIsWithdrawn }
 {}
 

@@ -2,13 +2,13 @@
 use Rattle.lease_laws.proofs.Words.{◌+◌, ◌++◌, ◌==◌, ◌∙◌, ◌∷◌, ◌≡◌, ◌≤◌, Among, Err, FileRequest, List, Ok, Outcome, Progress}
 use Rattle.lease_laws.proofs.Words.{Result, Server, Status, ℕ, [], ap, arith, begun, concluded, eqb-true, false}
 use Rattle.lease_laws.proofs.Words.{file_asked, held_left, inl, inr, is_behind, is_breaking, is_left_behind, list_any, not, put}
-use Rattle.lease_laws.proofs.Words.{acknowledged, append-nil, length, refl, true≢false, subst, sym, true}
+use Rattle.lease_laws.proofs.Words.{acknowledged, append-nil, length, refl, true≢false, subst, sym, true, without}
 use Rattle.lease_laws.proofs.server.Lists.{either, if_cases}
 use Rattle.manager_model.specs.Answering.{AnswersComeOnce, IsOnce, WaitersWereAsked, answers, is_answer, waiting_under}
 use Rattle.manager_model.specs.Bare.{bare_request}
 use Rattle.manager_model.specs.Decisions.{Decision, told_of}
 use Rattle.manager_model.specs.Handling.{Handling, Manager, Pass, Tagged, ended_between, ends, gone_on, handling, held_in, is_of}
-use Rattle.manager_model.specs.Handling.{left_to_wait, lost, one_pass, pass_answered, tagged_of}
+use Rattle.manager_model.specs.Handling.{left_to_wait, lost, one_pass, pass_answered, tagged_of, is_under}
 use Rattle.manager_model.specs.Handling as rules
 use Rattle.manager_model.specs.Hosting.{Coming}
 use Rattle.manager_model.proofs.answers.Once.{acknowledgments_answer_none, counts_both, counts_fewer, counts_next, ends_answer_none}
@@ -195,7 +195,7 @@ ends_once at manager after queues fewer once =
     once_still at (handling manager) _ (ends_answer_none at manager.server after) fewer once
 
 pub answers_come_once : AnswersComeOnce
-unfolding rules.join rules.receive rules.acknowledge rules.cut rules.expire rules.scavenge
+unfolding rules.join rules.receive rules.acknowledge rules.cut rules.expire rules.scavenge rules.withdraw
 answers_come_once manager (Coming.Joins client) once free at =
     ends_once at manager _ manager.queues (λ file. omega arith) (once at)
 answers_come_once manager (Coming.Asks client tag request) once free at =
@@ -221,6 +221,18 @@ answers_come_once manager (Coming.Expires key) once free at =
 answers_come_once manager (Coming.Scavenges file_id) once free at =
     if_cases (IsOnce at) (list_any (is_left_behind file_id) manager.server.opens) _ (handling manager)
     (λ left. passes_once at _ (ends_once at manager _ manager.queues (λ file. omega arith) (once at))) (λ none. once at)
+answers_come_once manager (Coming.Withdraws file client tag) once free at =
+    let queue = manager.queues file in
+    let left = without (is_under client tag) queue in
+    if_cases (IsOnce at) (list_any (is_under client tag) queue) _ (handling manager)
+    (λ some. passes_once at _ (once_still at (handling manager) (rules.taken_back file client tag (handling manager)) refl
+    (λ other. either (other == file)
+    (λ there. subst (λ n. waiting_under at (put manager.queues file left n) ≤ waiting_under at (manager.queues n))
+    (sym (eqb-true other file there)) (let here = ap (waiting_under at) (put_here manager.queues file left) in
+    let fewer = counts_fewer (λ (one : Tagged). one.tag == at) (λ (one : Tagged). not (is_under client tag one)) queue in
+    omega (arith, here, fewer)))
+    (λ apart. let same = ap (waiting_under at) (put_apart manager.queues file other left apart) in omega (arith, same))) (once at)))
+    (λ none. once at)
 
 pub waiters_were_asked : WaitersWereAsked
 waiters_were_asked manager coming file one there = (any_tells manager coming).asked file one there

@@ -6,7 +6,7 @@ use Rattle.lease_laws.proofs.Words.{as_held, begun, client_forgotten, cut, expir
 use Rattle.lease_laws.proofs.Words.{fun_ext, has_key, if◌then◌else◌, is_behind, is_breaking, is_left_behind, is_lost, join}
 use Rattle.lease_laws.proofs.Words.{joined}
 use Rattle.lease_laws.proofs.Words.{key_expired, list_any, not, opens_disconnected, opens_dropped, receive, refl, request_held}
-use Rattle.lease_laws.proofs.Words.{scavenge}
+use Rattle.lease_laws.proofs.Words.{has_marked, held_left, scavenge, unmarked, withdraw}
 use Rattle.lease_laws.proofs.Words.{tried, Tried}
 use Rattle.lease_model.specs.server.Calls.{first_tried}
 use Rattle.lease_model.specs.server.Progress.{stepped}
@@ -14,7 +14,8 @@ use Rattle.manager_model.specs.Bare.{bare, bare_held, bare_of, bare_progress, ba
 use Rattle.manager_model.specs.Laws.{BytesDecideNothing}
 use Rattle.manager_model.proofs.bytes.Ends.{acknowledged_so, concluded_so}
 use Rattle.manager_model.proofs.bytes.Passes.{all_so}
-use Rattle.manager_model.proofs.bytes.Steps.{behind_so, choose_so, dropped_so, filter_map, hold_so, refused_so, stepped_so}
+use Rattle.manager_model.proofs.bytes.Steps.{behind_so, choose_so, dropped_so, filter_map, hold_so, left_so, marked_map}
+use Rattle.manager_model.proofs.bytes.Steps.{refused_so, stepped_so, unmarked_map}
 use Rattle.manager_model.proofs.bytes.Tries.{as_held_so, asked_so, tried_so}
 
 first_so : (file : ℕ) (one : Held) (progress : Progress) (outcome : Outcome)
@@ -86,7 +87,7 @@ links_so server client =
     ∙ forgotten_so client (opens_disconnected client (opens_dropped (is_lost server client) (begun server)))
 
 pub bytes_decide_nothing : BytesDecideNothing
-unfolding join receive cut expire scavenge
+unfolding join receive cut expire scavenge withdraw
 bytes_decide_nothing server (Call.Join client) = choose_so bare_progress (server.present client) _ _ _ _ refl
     (stepped_so (begun server) (joined client (begun server)).server [])
 bytes_decide_nothing server (Call.Receive client request) = choose_so bare_progress (server.present client) _ _ _ _
@@ -103,3 +104,9 @@ bytes_decide_nothing server (Call.Scavenge file_id) =
     let dropped = opens_dropped (is_left_behind file_id) (begun server) in
     choose_so bare_progress (list_any (is_left_behind file_id) server.opens) _ _ _ _
     (ap all_passes (dropped_so (is_left_behind file_id) (begun server)) ∙ all_so dropped) refl
+bytes_decide_nothing server (Call.Withdraw file marks) =
+    let left = held_left file (unmarked marks (server.held file)) (begun server) in
+    ap₂ (λ b (after : Progress). if b then after else begun (bare server)) (marked_map marks bare_held (server.held file))
+    (ap (λ queue. all_passes (held_left file queue (begun (bare server)))) (unmarked_map marks bare_held (server.held file))
+    ∙ ap all_passes (left_so file (unmarked marks (server.held file)) (begun server)) ∙ all_so left)
+    ∙ choose_so bare_progress (has_marked marks (server.held file)) _ _ _ _ refl refl

@@ -3,8 +3,8 @@ use Rattle.lease_laws.proofs.Words.{◌++◌, ◌==◌, ◌∙◌, ◌∷◌, �
 use Rattle.lease_laws.proofs.Words.{Server, State, Status, ℕ, [], ap, break_begun, false, filter, fun_ext, held_left}
 use Rattle.lease_laws.proofs.Words.{if◌then◌else◌}
 use Rattle.lease_laws.proofs.Words.{is_behind, lease_lowered, list_any, map, map-append, opens_dropped, put, refl, refusal_of}
-use Rattle.lease_laws.proofs.Words.{begun}
-use Rattle.lease_laws.proofs.Words.{refused, replied, request_held, sym, true, waits_behind, ◌||◌}
+use Rattle.lease_laws.proofs.Words.{begun, not}
+use Rattle.lease_laws.proofs.Words.{refused, replied, request_held, sym, true, waits_behind, ◌||◌, has_marked, unmarked, without}
 use Rattle.lease_model.specs.server.Progress.{stepped}
 use Rattle.lease_state.specs.declared.rules.Rules.{Rules}
 use Rattle.manager_model.specs.Bare.{bare, bare_held, bare_out, bare_progress, bare_reply, bare_request}
@@ -41,6 +41,35 @@ filter_map {X} {Y} test f (x ∷ xs) = chosen (test (f x)) (filter_map test f xs
         ≡ map f (if b then x ∷ filter (λ x. test (f x)) xs else filter (λ x. test (f x)) xs)
     chosen true same = ap (λ l. f x ∷ l) same
     chosen false same = same
+
+-- ---- marks
+
+pub marked_map : {X Y : Type 0} (marks : List Bool) (f : X → Y) (xs : List X) → has_marked marks (map f xs) ≡ has_marked marks xs
+marked_map [] f xs = refl
+marked_map (mark ∷ marks) f [] = refl
+marked_map (mark ∷ marks) f (x ∷ xs) = ap (λ b. mark || b) (marked_map marks f xs)
+
+pub unmarked_map : {X Y : Type 0} (marks : List Bool) (f : X → Y) (xs : List X)
+    → unmarked marks (map f xs) ≡ map f (unmarked marks xs)
+unmarked_map [] f xs = refl
+unmarked_map (mark ∷ marks) f [] = refl
+unmarked_map (mark ∷ marks) f (x ∷ xs) = choose_so (map f) mark (unmarked marks xs) (x ∷ unmarked marks xs) _ _
+    (unmarked_map marks f xs) (ap (λ l. f x ∷ l) (unmarked_map marks f xs))
+
+-- where the marks are those that a test makes
+pub marks_find : {X : Type 0} (test : X → Bool) (xs : List X) → has_marked (map test xs) xs ≡ list_any test xs
+marks_find test [] = refl
+marks_find test (x ∷ xs) = ap (λ b. test x || b) (marks_find test xs)
+
+pub marks_leave : {X : Type 0} (test : X → Bool) (xs : List X) → unmarked (map test xs) xs ≡ without test xs
+marks_leave test [] = refl
+marks_leave {X} test (x ∷ xs) = chosen (test x) (marks_leave test xs)
+  where
+    chosen : (b : Bool) → unmarked (map test xs) xs ≡ without test xs
+        → (if b then unmarked (map test xs) xs else x ∷ unmarked (map test xs) xs)
+        ≡ (if not b then x ∷ without test xs else without test xs)
+    chosen true same = same
+    chosen false same = ap (λ l. x ∷ l) same
 
 -- ---- small steps
 

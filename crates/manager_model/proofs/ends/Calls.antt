@@ -8,7 +8,7 @@ use Rattle.lease_laws.proofs.server.cases.Judgements.{any_judgement}
 use Rattle.lease_model.specs.server.Calls.{file_asked}
 use Rattle.manager_model.specs.Bare.{bare_request}
 use Rattle.manager_model.specs.Decisions.{Decision, told_of}
-use Rattle.manager_model.specs.Ending.{EndsAreTold, EndsByWithdrawalAreTold, IsToldOf, Waited, WasAsked}
+use Rattle.manager_model.specs.Ending.{EndsAreTold, IsToldOf, Waited, WasAsked}
 use Rattle.manager_model.specs.Handling.{Handling, Manager, Pass, Tagged, ended_between, ends, gone_on, handling, is_of}
 use Rattle.manager_model.specs.Handling.{is_open, is_under}
 use Rattle.manager_model.specs.Handling.{held_in, left_to_wait, lost, one_pass, tagged_of}
@@ -242,6 +242,20 @@ joins_tell : (Asked : Tagged → Type 0) (manager : Manager) (client : ℕ)
 unfolding rules.join
 joins_tell Asked manager client t = comes_to Asked manager (join manager.server client).server manager.queues t.asked
 
+withdraws_tell : (Asked : Tagged → Type 0) (manager : Manager) (file client tag : ℕ)
+    → Tells Asked manager.server (handling manager) → Tells Asked manager.server (rules.withdraw manager file client tag)
+unfolding rules.withdraw
+withdraws_tell Asked manager file client tag t =
+    let left = without (is_under client tag) (manager.queues file) in
+    if_cases (Tells Asked manager.server) (list_any (is_under client tag) (manager.queues file)) _ (handling manager)
+    (λ there. passes_tell Asked manager.server _ (record {
+      asked = asked_put Asked manager.queues file left t.asked (λ one w. t.asked file one
+          (among_filter (λ (one : Tagged). not (is_under client tag one)) one (manager.queues file) w).0);
+      told = λ other w. ⊎_elim (λ stays. inl stays)
+          (λ told. inr (told_more Asked [] (Decision.Withdrawn client tag ∷ []) other.file_id told)) (t.told other w);
+    }))
+    (λ none. t)
+
 -- ---- any of them
 
 pub any_tells : (manager : Manager) (coming : Coming) → Tells (WasAsked manager coming) manager.server (managed manager coming)
@@ -253,6 +267,8 @@ any_tells manager (Coming.Acknowledges client given) =
 any_tells manager (Coming.IsCut client) = cuts_tell _ manager client (begins_tell _ manager (λ one w. inl w))
 any_tells manager (Coming.Expires key) = expires_tell _ manager key (begins_tell _ manager (λ one w. inl w))
 any_tells manager (Coming.Scavenges file_id) = scavenges_tell _ manager file_id (begins_tell _ manager (λ one w. inl w))
+any_tells manager (Coming.Withdraws file client tag) =
+    withdraws_tell _ manager file client tag (begins_tell _ manager (λ one w. inl w))
 
 gone_is_told : (Asked : Tagged → Type 0) (start : Server) (now : Handling) (one : Open) → Tells Asked start now
     → Among one start.opens → is_open now.manager.server one ≡ false → IsToldOf Asked now.told one.file_id
@@ -262,22 +278,3 @@ gone_is_told Asked start now one t there gone =
 pub ends_are_told : EndsAreTold
 ends_are_told manager coming one = gone_is_told (WasAsked manager coming) manager.server (managed manager coming) one
     (any_tells manager coming)
-
-withdrawals_tell : (manager : Manager) (file client tag : ℕ)
-    → Tells (Waited manager) manager.server (rules.withdraw manager file client tag)
-unfolding rules.withdraw
-withdrawals_tell manager file client tag =
-    let left = without (is_under client tag) (manager.queues file) in
-    if_cases (Tells (Waited manager) manager.server) (list_any (is_under client tag) (manager.queues file)) _ (handling manager)
-    (λ there. passes_tell (Waited manager) manager.server _ (record {
-      asked = asked_put (Waited manager) manager.queues file left (λ at one w. (at, w))
-          (λ one w. (file, (among_filter (λ (one : Tagged). not (is_under client tag one)) one (manager.queues file) w).0));
-      told = λ other w. ⊎_elim (λ stays. inl stays)
-          (λ told. inr (told_more (Waited manager) [] (Decision.Withdrawn client tag ∷ []) other.file_id told))
-          (begins_told (Waited manager) manager.server other w);
-    }))
-    (λ none. begins_tell (Waited manager) manager (λ one w. w))
-
-pub ends_by_withdrawal_are_told : EndsByWithdrawalAreTold
-ends_by_withdrawal_are_told manager file client tag one = gone_is_told (Waited manager) manager.server
-    (rules.withdraw manager file client tag) one (withdrawals_tell manager file client tag)

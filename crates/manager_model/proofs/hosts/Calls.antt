@@ -9,7 +9,7 @@ use Rattle.lease_laws.proofs.Words.{if◌then◌else◌, inl, inr, is_behind, is
 use Rattle.lease_laws.proofs.Words.{key_expired, list_any, map, map-append, not}
 use Rattle.lease_laws.proofs.Words.{opens_dropped, put, receive, refl, refused, request_held, scavenge, subst, sym, tried, true}
 use Rattle.lease_laws.proofs.Words.{without}
-use Rattle.lease_laws.proofs.Words.{held_left, held_of, lane_of}
+use Rattle.lease_laws.proofs.Words.{has_marked, held_left, held_of, lane_of, unmarked, withdraw}
 use Rattle.lease_laws.proofs.server.Arrivals.{acknowledged-held}
 use Rattle.lease_laws.proofs.server.Held.{concluded-held, tried_for-held}
 use Rattle.lease_laws.proofs.server.Lists.{among_map, if_cases}
@@ -21,12 +21,13 @@ use Rattle.manager_model.specs.Handling.{left_to_wait, lost, tagged_of}
 use Rattle.manager_model.specs.Handling as rules
 use Rattle.manager_model.specs.Hosting.{AreAsked, AreServer, Coming, HasFreeTag, Host, Hosted, IsHostOf, asked_by, call_of}
 use Rattle.manager_model.specs.Hosting.{filled, hosted, managed}
-use Rattle.manager_model.specs.Hosting.{HaveFreeTags, fresh_manager, fresh_server, given_along, hosted_along}
+use Rattle.manager_model.specs.Hosting.{HaveFreeTags, calls_along, fresh_manager, fresh_server, given_along, hosted_along}
 use Rattle.lease_laws.proofs.Words.{new_server_under}
-use Rattle.manager_model.specs.Laws.{HostsAreServers, RunsOfHosts, WithdrawalsAreServed, withdrawn_from}
+use Rattle.manager_model.specs.Laws.{HostsAreServers, RunsOfHosts}
 use Rattle.manager_model.proofs.bytes.Calls.{bytes_decide_nothing, expired_so, links_so}
 use Rattle.manager_model.proofs.bytes.Ends.{acknowledged_so, concluded_so}
-use Rattle.manager_model.proofs.bytes.Steps.{behind_so, dropped_so, filter_map, hold_so, left_so, refused_so}
+use Rattle.manager_model.proofs.bytes.Steps.{behind_so, dropped_so, filter_map, hold_so, left_so, marked_map, marks_find}
+use Rattle.manager_model.proofs.bytes.Steps.{marks_leave, refused_so, unmarked_map}
 use Rattle.manager_model.proofs.bytes.Tries.{as_held_so, asked_so, lane_so, tried_so}
 use Rattle.manager_model.proofs.hosts.Answers.{acknowledged_faithfully, ends_faithfully, refused_faithfully}
 use Rattle.manager_model.proofs.hosts.Faithful.{does_none, does_one, does_then, faithful_then, host_of_fewer, same_host}
@@ -387,26 +388,6 @@ cuts requests manager host server client are =
     (lost_serves requests manager host server client are))
     (λ down. begins_serving requests manager host server are)
 
--- ---- any of them
-
-pub any_serves : (requests : ℕ → FileRequest) (manager : Manager) (host : Host) (server : Server) (coming : Coming)
-    → AreServer requests manager host server → HasFreeTag manager coming
-    → Serves (asked_by requests coming) host (managed manager coming) (called server (call_of coming))
-any_serves requests manager host server (Coming.Joins client) are free = joins requests manager host server client are
-any_serves requests manager host server (Coming.Asks client tag request) are free =
-    asks (put requests tag request) manager host server tag client request
-    (asks_serving requests manager host server tag request are free) (put_here requests tag request)
-any_serves requests manager host server (Coming.Acknowledges client given) are free =
-    acknowledges requests manager host server client given are
-any_serves requests manager host server (Coming.IsCut client) are free = cuts requests manager host server client are
-any_serves requests manager host server (Coming.Expires key) are free = expires requests manager host server key are
-any_serves requests manager host server (Coming.Scavenges file_id) are free =
-    scavenges requests manager host server file_id are
-
-pub hosts_are_servers : HostsAreServers
-hosts_are_servers requests manager host server coming are free =
-    let s = any_serves requests manager host server coming are free in (s.server, s.outs)
-
 -- ---- withdrawals
 
 asked_apart : (requests : ℕ → FileRequest) (client tag : ℕ) (queue : List Tagged) → AreAsked requests queue
@@ -437,32 +418,55 @@ taken_serves requests manager host server file client tag are =
       outs = ap (λ (d : Hosted). d.outs) same;
     }
 
-withdrawal_serves : (requests : ℕ → FileRequest) (manager : Manager) (host : Host) (server : Server) (file client tag : ℕ)
+withdraws : (requests : ℕ → FileRequest) (manager : Manager) (host : Host) (server : Server) (file client tag : ℕ)
     → AreServer requests manager host server → Serves requests host (rules.withdraw manager file client tag)
-    (withdrawn_from requests manager file client tag server)
-unfolding rules.withdraw
-withdrawal_serves requests manager host server file client tag are =
-    both_ways (Serves requests host) (list_any (is_under client tag) (manager.queues file))
-    (list_any (is_under client tag) (manager.queues file)) _ _ _ _ refl
+    (withdraw server file (map (is_under client tag) (manager.queues file)))
+unfolding rules.withdraw withdraw
+withdraws requests manager host server file client tag are =
+    let queue = manager.queues file in
+    let marks = map (is_under client tag) queue in
+    both_ways (Serves requests host) (list_any (is_under client tag) queue) (has_marked marks (server.held file)) _ _ _ _
+    (sym (ap (has_marked marks) (are.waiting file) ∙ marked_map marks (filled requests) queue ∙ marks_find (is_under client tag) queue))
     (λ there. all_serve requests host (rules.taken_back file client tag (handling manager)) _
-    (taken_serves requests manager host server file client tag are))
+    (subst (λ left. Serves requests host (rules.taken_back file client tag (handling manager)) (held_left file left (begun server)))
+    (sym (ap (unmarked marks) (are.waiting file) ∙ unmarked_map marks (filled requests) queue
+    ∙ ap (map (filled requests)) (marks_leave (is_under client tag) queue)))
+    (taken_serves requests manager host server file client tag are)))
     (λ none. begins_serving requests manager host server are)
 
-pub withdrawals_are_served : WithdrawalsAreServed
-withdrawals_are_served requests manager host server file client tag are =
-    let s = withdrawal_serves requests manager host server file client tag are in (s.server, s.outs)
+-- ---- any of them
+
+pub any_serves : (requests : ℕ → FileRequest) (manager : Manager) (host : Host) (server : Server) (coming : Coming)
+    → AreServer requests manager host server → HasFreeTag manager coming
+    → Serves (asked_by requests coming) host (managed manager coming) (called server (call_of manager coming))
+any_serves requests manager host server (Coming.Joins client) are free = joins requests manager host server client are
+any_serves requests manager host server (Coming.Asks client tag request) are free =
+    asks (put requests tag request) manager host server tag client request
+    (asks_serving requests manager host server tag request are free) (put_here requests tag request)
+any_serves requests manager host server (Coming.Acknowledges client given) are free =
+    acknowledges requests manager host server client given are
+any_serves requests manager host server (Coming.IsCut client) are free = cuts requests manager host server client are
+any_serves requests manager host server (Coming.Expires key) are free = expires requests manager host server key are
+any_serves requests manager host server (Coming.Scavenges file_id) are free =
+    scavenges requests manager host server file_id are
+any_serves requests manager host server (Coming.Withdraws file client tag) are free =
+    withdraws requests manager host server file client tag are
+
+pub hosts_are_servers : HostsAreServers
+hosts_are_servers requests manager host server coming are free =
+    let s = any_serves requests manager host server coming are free in (s.server, s.outs)
 
 -- ---- whole runs
 
 runs_on : (requests : ℕ → FileRequest) (manager : Manager) (host : Host) (server : Server) (comings : List Coming)
     → AreServer requests manager host server → HaveFreeTags manager comings
-    → hosted_along requests manager host comings ≡ given_along server comings
+    → hosted_along requests manager host comings ≡ given_along server (calls_along manager comings)
 runs_on requests manager host server [] are free = refl
 runs_on requests manager host server (coming ∷ comings) are free =
     let s = any_serves requests manager host server coming are free.0 in
     ap₂ (λ x xs. x ∷ xs) s.outs
     (runs_on (asked_by requests coming) (managed manager coming).manager
-    (hosted (asked_by requests coming) host (managed manager coming)).host (called server (call_of coming)).server comings
+    (hosted (asked_by requests coming) host (managed manager coming)).host (called server (call_of manager coming)).server comings
     s.server free.1)
 
 pub runs_of_hosts : RunsOfHosts

@@ -6,10 +6,6 @@ pub returns-clause-told : goal.returns-clause-told
 unfolding the_manager
 returns-clause-told c = refl
 
-pub returns-clause-gone : goal.returns-clause-gone
-unfolding the_manager
-returns-clause-gone c = refl
-
 pub returns-clause-none : goal.returns-clause-none
 unfolding the_manager
 returns-clause-none c = refl
