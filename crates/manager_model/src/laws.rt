@@ -1,4 +1,4 @@
-ghost use Rattle.manager_model.specs.Answering.{AnswersComeOnce, WaitersWereAsked};
+ghost use Rattle.manager_model.specs.Answering.{AnswersComeOnce, NoneIsDropped, WaitersWereAsked, WithdrawnAreGone};
 ghost use Rattle.manager_model.specs.Ending.{EndsAreTold};
 ghost use Rattle.manager_model.specs.Laws.{BytesDecideNothing, FilesAreEnough, HostsAreServers, PassesAnswer, PassesAreEnough};
 ghost use Rattle.manager_model.specs.Laws.{RunsOfHosts};
@@ -33,8 +33,11 @@ pub fn law_of_ends()
 {}
 
 /// A request is answered under its tag at most once, and waits no longer then, and what waits was asked: a host that carried out a
-/// decision for a tag lets go of what it asked under it. Tags under which requests wait are distinct. Does nothing.
+/// decision for a tag lets go of what it asked under it. None is dropped: a call answers a request, leaves it waiting, takes it
+/// back or cuts its client. Tags under which requests wait are distinct. Does nothing.
 pub fn law_of_answers()
     ensures once { AnswersComeOnce }
+    ensures dropped { NoneIsDropped }
     ensures asked { WaitersWereAsked }
+    ensures withdrawn { WithdrawnAreGone }
 {}

@@ -108,7 +108,7 @@ pub record Laws : Type 0 where
 
 pub call_made : Laws → (manager : managed.Table) (told : List Decision) (kept new : Kept) (outs : List Out)
     → (way : IsUnderWay manager told kept) → HasSettled told manager.opens kept new [] outs
-    → IsCalled way.old (call_of way.coming) (table_of manager new) outs
+    → IsCalled way.old (call_of (managed.manager_of way.old.manager) way.coming) (table_of manager new) outs
 call_made laws manager told kept new outs way settled =
     let old = way.old in
     let coming = way.coming in
@@ -118,7 +118,8 @@ call_made laws manager told kept new outs way settled =
     let said = way.said in
     let requests = asked_by (requests_in old.kept.requests) coming in
     let now = managed (managed.manager_of old.manager) coming in
-    let after = called (server_of old) (call_of coming) in
+    let call = call_of (managed.manager_of old.manager) coming in
+    let after = called (server_of old) call in
     let law = laws.hosts (requests_in old.kept.requests) (managed.manager_of old.manager) (host_of old.kept) (server_of old) coming
     (are_server old is) comes.free in
     let done : hosted_of settled.middle outs ≡ hosted requests (host_of old.kept) now =
@@ -156,7 +157,7 @@ call_made laws manager told kept new outs way settled =
       server = server;
       outs = ap (λ (d : Hosted). d.outs) done ∙ law.1;
       is = record {
-        sound = subst IsSound (sym server) (laws.sound (server_of old) (call_of coming) is.sound);
+        sound = subst IsSound (sym server) (laws.sound (server_of old) call is.sound);
         asked = asked;
         once = λ tag. subst (λ (m : Manager). IsOnce tag (handling m)) (sym same) (waits_once tag now (once tag));
         below = λ file one there. subst (λ n. one.tag < n) (sym (settled.let_go.next ∙ settled.done.next))

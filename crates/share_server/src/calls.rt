@@ -3,7 +3,7 @@ ghost use Rattle.std.specs.List.{list_any};
 ghost use Rattle.std.specs.Option.{option_map};
 ghost use Rattle.lease_manager.specs.Outs.{decisions};
 ghost use Rattle.lease_manager.specs.Requests.{lease_asked};
-ghost use Rattle.lease_manager.specs.Table.{server_of};
+ghost use Rattle.lease_manager.specs.Table.{manager_of, server_of};
 ghost use Rattle.lease_model.specs.messages.FromBytes.{acknowledged_in, ask_found, request_of};
 ghost use Rattle.lease_model.specs.messages.Requests as model;
 ghost use Rattle.lease_model.specs.server.Calls as rules;
@@ -317,7 +317,8 @@ fn settle(
     requires given { outs.old ≡ [] }
     requires way { IsUnderWay manager.now (decisions told.now) host.old }
     ensures { OnOk result ((way : IsUnderWay manager.now (decisions told.now) host.old)
-        → IsCalled way.old (call_of way.coming) (table_of manager.now host.new) outs.new) }
+        → IsCalled way.old (call_of (manager_of way.old.manager) way.coming)
+        (table_of manager.now host.new) outs.new) }
 {
     law_of_hosts();
     law_of_answers();

@@ -5,11 +5,13 @@ use Rattle.lease_laws.proofs.Words.{◌+◌, ◌++◌, ◌==◌, ◌∙◌, ◌�
 use Rattle.lease_laws.proofs.Words.{Out, Outcome, Progress, Reply, Server, Status, ℕ, [], acknowledged, ap, arith, begun, concluded}
 use Rattle.lease_laws.proofs.Words.{eqb-true, false, filter, flat_map-append, if◌then◌else◌, map, nat_tests}
 use Rattle.lease_laws.proofs.Words.{refl, refusal_of, subst, sym, tried, true, without}
+use Rattle.lease_laws.proofs.Words.{Finding, Held, Want, by_open, finding, held_left, read_finding, tried_for, write_finding}
 use Rattle.lease_laws.proofs.server.Lists.{either}
-use Rattle.lease_laws.proofs.server.cases.Ends.{any_end}
+use Rattle.lease_laws.proofs.server.cases.Ends.{IsLeft, any_end}
+use Rattle.lease_laws.proofs.server.cases.Findings.{finds_malformed, look_for_close, look_for_read, look_for_write}
 use Rattle.lease_laws.proofs.server.cases.Judgements.{any_judgement}
-use Rattle.lease_laws.proofs.server.cases.Tries.{any_try}
-use Rattle.manager_model.specs.Answering.{IsOnce, answers, is_answer, waiting_under}
+use Rattle.lease_laws.proofs.server.cases.Tries.{any_rounds, any_try}
+use Rattle.manager_model.specs.Answering.{answers, is_answer, waiting_under}
 use Rattle.manager_model.specs.Decisions.{Decision, told_of, told_of_out}
 use Rattle.manager_model.specs.Handling.{Handling, ended_between, is_open}
 
@@ -71,35 +73,79 @@ tries_answer_none at tag client request server = any_try (AnswersAlike at tag) (
   begin = λ key lowered p settled. silent at tag p.outs _ refl;
 }) 3 client request (begun server)
 
--- the end of a try answers once, under the tag
-abbrev AnswersAtMost : ℕ → ℕ → Progress → Progress → Type 0
-AnswersAtMost at tag before after =
-    answers at (told_of tag after.outs) ≤ answers at (told_of tag before.outs) + one_if (tag == at)
+-- ---- a try that doesn't wait finds what it answers
 
-by_one : (at tag : ℕ) (outs more : List Out) → answers at (told_of tag more) ≤ one_if (tag == at)
-    → answers at (told_of tag (outs ++ more)) ≤ answers at (told_of tag outs) + one_if (tag == at)
+found_both : (status : Status) (wants : List Want) → Finding.Fails status ≡ Finding.Needs wants → ⊥
+found_both status wants both = absurd (cc)
+
+-- what is ready has its contexts, or its open
+ready_is_not_left : (server : Server) (client : ℕ) (request : FileRequest) (wants : List Want)
+    → finding server client request ≡ Finding.Needs wants → IsLeft server client request Outcome.Ready → ⊥
+ready_is_not_left server client (FileRequest.Create file access share contexts) wants is left = found_both
+    Status.InvalidParameter wants (sym (finds_malformed server client file access share)
+    ∙ ap (λ c. finding server client (FileRequest.Create file access share c)) (sym left) ∙ is)
+ready_is_not_left server client (FileRequest.Read file_id) wants is left = found_both Status.FileClosed wants
+    (sym (ap (λ o. by_open o read_finding) left) ∙ sym (look_for_read server client file_id) ∙ is)
+ready_is_not_left server client (FileRequest.Write file_id number patch) wants is left = found_both Status.FileClosed wants
+    (sym (ap (λ o. by_open o (λ one. write_finding server one patch)) left)
+    ∙ sym (look_for_write server client file_id number patch) ∙ is)
+ready_is_not_left server client (FileRequest.Close file_id) wants is left = found_both Status.FileClosed wants
+    (sym (ap (λ o. by_open o (λ one. Finding.Needs [])) left) ∙ sym (look_for_close server client file_id) ∙ is)
+
+pub ends_are_not_left : (rounds client : ℕ) (request : FileRequest) (progress : Progress)
+    → ((tried_for rounds client request progress).outcome ≡ Outcome.Waits → ⊥)
+    → IsLeft (tried_for rounds client request progress).progress.server client request
+    (tried_for rounds client request progress).outcome → ⊥
+ends_are_not_left rounds client request progress = any_rounds client request
+    (λ rounds before done. (done.outcome ≡ Outcome.Waits → ⊥) → IsLeft done.progress.server client request done.outcome → ⊥)
+    (record {
+      out = λ before ends left. ends refl;
+      fails = λ rounds before status is ends left. left;
+      ready = λ rounds before wants is ready ends left. ready_is_not_left before.server client request wants is left;
+      waits = λ rounds before wants needs wait ends left. ends refl;
+      again = λ rounds before wants done needs goes rest. rest;
+    }) rounds progress
+
+-- what waits on a file makes no difference
+pub left_alike : (client file : ℕ) (left : List Held) (progress : Progress) (request : FileRequest) (outcome : Outcome)
+    → IsLeft (held_left file left progress).server client request outcome → IsLeft progress.server client request outcome
+left_alike client file left progress request (Outcome.Refused status) is = is
+left_alike client file left progress request Outcome.Waits is = is
+left_alike client file left progress (FileRequest.Create at access share contexts) Outcome.Ready is = is
+left_alike client file left progress (FileRequest.Read file_id) Outcome.Ready is = is
+left_alike client file left progress (FileRequest.Write file_id number patch) Outcome.Ready is = is
+left_alike client file left progress (FileRequest.Close file_id) Outcome.Ready is = is
+
+-- the end of such a try answers once, under the tag
+abbrev AnswersOne : ℕ → ℕ → Progress → Progress → Type 0
+AnswersOne at tag before after =
+    answers at (told_of tag after.outs) ≡ answers at (told_of tag before.outs) + one_if (tag == at)
+
+by_one : (at tag : ℕ) (outs more : List Out) → answers at (told_of tag more) ≡ one_if (tag == at)
+    → answers at (told_of tag (outs ++ more)) ≡ answers at (told_of tag outs) + one_if (tag == at)
 by_one at tag outs more one = let both = answers_more at tag outs more in omega (arith, both, one)
 
 pub refusal_answers : (at tag client : ℕ) (request : FileRequest) (status : Status)
-    → answers at (told_of tag (Out.Sent client (refusal_of request status) ∷ [])) ≤ one_if (tag == at)
+    → answers at (told_of tag (Out.Sent client (refusal_of request status) ∷ [])) ≡ one_if (tag == at)
 refusal_answers at tag client (FileRequest.Create file access share contexts) status = omega arith
 refusal_answers at tag client (FileRequest.Read file_id) status = omega arith
 refusal_answers at tag client (FileRequest.Write file_id number patch) status = omega arith
 refusal_answers at tag client (FileRequest.Close file_id) status = omega arith
 
 pub ends_answer_once : (at tag client : ℕ) (request : FileRequest) (progress : Progress) (outcome : Outcome)
+    → (IsLeft progress.server client request outcome → ⊥)
     → answers at (told_of tag (concluded client request progress outcome).outs)
-    ≤ answers at (told_of tag progress.outs) + one_if (tag == at)
+    ≡ answers at (told_of tag progress.outs) + one_if (tag == at)
 ends_answer_once at tag client request progress outcome = any_end client progress
-    (λ request outcome after. AnswersAtMost at tag progress after) (record {
-      refused = λ request status. by_one at tag progress.outs _ (refusal_answers at tag client request status);
-      left = λ request outcome why. omega arith;
-      full = λ file access share ask none out. by_one at tag progress.outs _ (omega arith);
-      granted = λ file access share ask none room. by_one at tag progress.outs _ (omega arith);
-      again = λ file access share ask file_id some. by_one at tag progress.outs _ (omega arith);
-      read = λ file_id one own. by_one at tag progress.outs _ (omega arith);
-      changed = λ file_id number patch one own. by_one at tag progress.outs _ (omega arith);
-      closed = λ file_id one own.
+    (λ request outcome after. (IsLeft progress.server client request outcome → ⊥) → AnswersOne at tag progress after) (record {
+      refused = λ request status ends. by_one at tag progress.outs _ (refusal_answers at tag client request status);
+      left = λ request outcome why ends. absurd (ends why);
+      full = λ file access share ask none out ends. by_one at tag progress.outs _ (omega arith);
+      granted = λ file access share ask none room ends. by_one at tag progress.outs _ (omega arith);
+      again = λ file access share ask file_id some ends. by_one at tag progress.outs _ (omega arith);
+      read = λ file_id one own ends. by_one at tag progress.outs _ (omega arith);
+      changed = λ file_id number patch one own ends. by_one at tag progress.outs _ (omega arith);
+      closed = λ file_id one own ends.
           let none = silent at tag progress.outs [] refl in
           let last = by_one at tag (progress.outs ++ []) (Out.Sent client (Reply.Closed file_id) ∷ []) (omega arith) in
           omega (arith, none, last);
@@ -113,41 +159,43 @@ acknowledgments_answer_none at client given server = any_judgement client (begun
 
 -- ---- a call goes on
 
--- nothing more is answered, and no more wait
-pub once_still : (tag : ℕ) (now after : Handling) → answers tag after.told ≡ answers tag now.told
-    → ((file : ℕ) → waiting_under tag (after.manager.queues file) ≤ waiting_under tag (now.manager.queues file))
-    → IsOnce tag now → IsOnce tag after
-once_still tag now after told fewer once = record {
-  file = once.file;
-  once = let less = fewer once.file in let was = once.once in omega (arith, told, less, was);
-  others = λ other apart. let less = fewer other in let was = once.others other apart in omega (arith, less, was);
+-- So often the request under the tag was answered or waits on the file, and none waits under it on another.
+pub record Counts (tag : ℕ) (file : ℕ) (total : ℕ) (now : Handling) : Type 0 where
+  pub all : answers tag now.told + waiting_under tag (now.manager.queues file) ≡ total
+  pub others : (other : ℕ) → (other == file) ≡ false → waiting_under tag (now.manager.queues other) ≡ 0
+
+-- nothing more is answered, and as many wait
+pub counts_still : (tag file total : ℕ) (now after : Handling) → answers tag after.told ≡ answers tag now.told
+    → ((other : ℕ) → waiting_under tag (after.manager.queues other) ≡ waiting_under tag (now.manager.queues other))
+    → Counts tag file total now → Counts tag file total after
+counts_still tag file total now after told here c = record {
+  all = let same = here file in let was = c.all in omega (arith, told, same, was);
+  others = λ other apart. here other ∙ c.others other apart;
 }
 
 -- What is answered more waits less on this file, and all others are as they were.
-pub once_answered : (tag file less : ℕ) (now after : Handling) → answers tag after.told ≤ answers tag now.told + less
-    → waiting_under tag (after.manager.queues file) + less ≡ waiting_under tag (now.manager.queues file)
-    → ((other : ℕ) → (other == file) ≡ false → after.manager.queues other ≡ now.manager.queues other)
-    → IsOnce tag now → IsOnce tag after
-once_answered tag file less now after told here others once = either (once.file == file)
+pub counts_answered : (tag file total place more : ℕ) (now after : Handling)
+    → answers tag after.told ≡ answers tag now.told + more
+    → waiting_under tag (after.manager.queues place) + more ≡ waiting_under tag (now.manager.queues place)
+    → ((other : ℕ) → (other == place) ≡ false → after.manager.queues other ≡ now.manager.queues other)
+    → Counts tag file total now → Counts tag file total after
+counts_answered tag file total place more now after told here others c = either (file == place)
     (λ home. record {
-      file = once.file;
-      once =
-          let same : waiting_under tag (after.manager.queues once.file) + less ≡ waiting_under tag (now.manager.queues once.file) =
-          subst (λ n. waiting_under tag (after.manager.queues n) + less ≡ waiting_under tag (now.manager.queues n))
-          (sym (eqb-true once.file file home)) here in
-          let was = once.once in omega (arith, told, same, was);
+      all =
+          let same : waiting_under tag (after.manager.queues file) + more ≡ waiting_under tag (now.manager.queues file) =
+          subst (λ n. waiting_under tag (after.manager.queues n) + more ≡ waiting_under tag (now.manager.queues n))
+          (sym (eqb-true file place home)) here in
+          let was = c.all in omega (arith, told, same, was);
       others = λ other apart. ap (waiting_under tag) (others other (subst (λ n. (other == n) ≡ false)
-          (eqb-true once.file file home) apart)) ∙ once.others other apart;
+          (eqb-true file place home) apart)) ∙ c.others other apart;
     })
     (λ away.
-    let none = once.others file (apart_back once.file file away) in record {
-      file = once.file;
-      once = let same = ap (waiting_under tag) (others once.file away) in let was = once.once in
-          omega (arith, told, same, was, here, none);
-      others = λ other apart. either (other == file)
-          (λ its. subst (λ n. waiting_under tag (after.manager.queues n) ≡ 0) (sym (eqb-true other file its))
+    let none = c.others place (apart_back file place away) in record {
+      all = let same = ap (waiting_under tag) (others file away) in let was = c.all in omega (arith, told, same, was, here, none);
+      others = λ other apart. either (other == place)
+          (λ its. subst (λ n. waiting_under tag (after.manager.queues n) ≡ 0) (sym (eqb-true other place its))
           (omega (arith, here, none)))
-          (λ off. ap (waiting_under tag) (others other off) ∙ once.others other apart);
+          (λ off. ap (waiting_under tag) (others other off) ∙ c.others other apart);
     })
   where
     apart_back : (n m : ℕ) → (n == m) ≡ false → (m == n) ≡ false

@@ -65,7 +65,7 @@ tries_tell Asked start file one waiting pass p =
               (λ told. inr (told_more Asked _ (told_of one.tag done.outs) other.file_id told)) (after other there);
         };
       };
-      answers = λ outcome. record {
+      answers = λ outcome is ends. record {
         passed = p.passed;
         waits = λ other there. p.waits other (inr there);
         tells = record {

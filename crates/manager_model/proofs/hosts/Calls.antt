@@ -426,9 +426,11 @@ withdraws requests manager host server file client tag are =
     let queue = manager.queues file in
     let marks = map (is_under client tag) queue in
     both_ways (Serves requests host) (list_any (is_under client tag) queue) (has_marked marks (server.held file)) _ _ _ _
-    (sym (ap (has_marked marks) (are.waiting file) ∙ marked_map marks (filled requests) queue ∙ marks_find (is_under client tag) queue))
+    (sym (ap (has_marked marks) (are.waiting file) ∙ marked_map marks (filled requests) queue
+    ∙ marks_find (is_under client tag) queue))
     (λ there. all_serve requests host (rules.taken_back file client tag (handling manager)) _
-    (subst (λ left. Serves requests host (rules.taken_back file client tag (handling manager)) (held_left file left (begun server)))
+    (subst (λ left. Serves requests host (rules.taken_back file client tag (handling manager))
+    (held_left file left (begun server)))
     (sym (ap (unmarked marks) (are.waiting file) ∙ unmarked_map marks (filled requests) queue
     ∙ ap (map (filled requests)) (marks_leave (is_under client tag) queue)))
     (taken_serves requests manager host server file client tag are)))

@@ -33,7 +33,7 @@ pub in_pass : (file count : ℕ) (one : Tagged) (waiting : List Tagged) (pass : 
 in_pass file count one waiting pass p = any_try file one waiting pass (λ after. InPass file count waiting after) (record {
   behind = still_there file count one waiting pass _ p refl refl refl;
   waits = still_there file count one waiting pass _ p refl refl refl;
-  answers = λ outcome.
+  answers = λ outcome is ends.
       let a = length-append pass.passed waiting in
       let b = length-append pass.passed (one ∷ waiting) in
       let left = p.left in

@@ -31,7 +31,7 @@ others_wait file other apart one waiting pass queue same =
     any_try file one waiting pass (λ after. after.now.manager.queues other ≡ queue) (record {
       behind = same;
       waits = same;
-      answers = λ outcome. put_apart pass.now.manager.queues file other (pass.passed ++ waiting) apart ∙ same;
+      answers = λ outcome is ends. put_apart pass.now.manager.queues file other (pass.passed ++ waiting) apart ∙ same;
     })
 
 pass_apart : (file other : ℕ) (now : Handling) → (other == file) ≡ false

@@ -55,13 +55,16 @@ pub record HasTries (file : ℕ) (one : Tagged) (waiting : List Tagged) (pass : 
   pub behind : P (left_waiting one pass pass.now)
   pub waits : P (left_waiting one pass (gone_on one.tag (try_of one pass.now).progress
       (ends (try_of one pass.now).progress.server pass.now)))
-  pub answers : (outcome : Outcome) → P (pass_answered file one waiting pass (try_of one pass.now).progress outcome)
+  pub answers : (outcome : Outcome) → (try_of one pass.now).outcome ≡ outcome → (outcome ≡ Outcome.Waits → ⊥)
+      → P (pass_answered file one waiting pass (try_of one pass.now).progress outcome)
 
 ended_so : (file : ℕ) (one : Tagged) (waiting : List Tagged) (pass : Pass) (P : Pass → Type 0) (progress : Progress)
     (outcome : Outcome) → P (left_waiting one pass (gone_on one.tag progress (ends progress.server pass.now)))
-    → P (pass_answered file one waiting pass progress outcome) → P (after_try file one waiting pass progress outcome)
+    → ((outcome ≡ Outcome.Waits → ⊥) → P (pass_answered file one waiting pass progress outcome))
+    → P (after_try file one waiting pass progress outcome)
 ended_so file one waiting pass P progress Outcome.Waits waits answers = waits
-ended_so file one waiting pass P progress outcome waits answers = answers
+ended_so file one waiting pass P progress Outcome.Ready waits answers = answers (λ same. absurd (cc))
+ended_so file one waiting pass P progress (Outcome.Refused status) waits answers = answers (λ same. absurd (cc))
 
 pub any_try : (file : ℕ) (one : Tagged) (waiting : List Tagged) (pass : Pass) (P : Pass → Type 0)
     → HasTries file one waiting pass P → P (rules.tried_again file one waiting pass)
@@ -69,7 +72,7 @@ any_try file one waiting pass P h = either (is_behind pass.now.manager.server.ru
     (λ behind. subst P (sym (is_passed_over file one waiting pass behind)) h.behind)
     (λ first. subst P (sym (is_tried file one waiting pass first))
     (ended_so file one waiting pass P (try_of one pass.now).progress (try_of one pass.now).outcome h.waits
-    (h.answers (try_of one pass.now).outcome)))
+    (h.answers (try_of one pass.now).outcome refl)))
 
 -- what each try hands on to the next holds at the end of the pass
 pub any_pass : (file : ℕ) (Q : List Tagged → Pass → Type 0)
