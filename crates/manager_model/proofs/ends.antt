@@ -1,2 +1,4 @@
 pub mod Calls
+pub mod Exact
+pub mod Once
 pub mod Told

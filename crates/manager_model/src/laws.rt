@@ -1,5 +1,5 @@
 ghost use Rattle.manager_model.specs.Answering.{AnswersComeOnce, NoneIsDropped, WaitersWereAsked, WithdrawnAreGone};
-ghost use Rattle.manager_model.specs.Ending.{EndsAreTold};
+ghost use Rattle.manager_model.specs.Ending.{EndsAreExact, EndsAreTold};
 ghost use Rattle.manager_model.specs.Laws.{BytesDecideNothing, FilesAreEnough, HostsAreServers, PassesAnswer, PassesAreEnough};
 ghost use Rattle.manager_model.specs.Laws.{RunsOfHosts};
 
@@ -27,9 +27,11 @@ pub fn law_of_hosts()
 {}
 
 /// A host learns which opens are no more: of each that is there before a call and isn't after it, a decision says that it
-/// ended, or that a close is done that was asked for it. Does nothing.
+/// ended, or that a close is done that was asked for it. It learns of no other: in a sound server an open that either names is
+/// there no longer, and is named once. Does nothing.
 pub fn law_of_ends()
-    ensures { EndsAreTold }
+    ensures told { EndsAreTold }
+    ensures exact { EndsAreExact }
 {}
 
 /// A request is answered under its tag at most once, and waits no longer then, and what waits was asked: a host that carried out a

@@ -330,7 +330,7 @@ as_at_first : (at : ℕ) (manager : Manager) (after : Handling) (once : IsOnce a
 as_at_first at manager after once c = let most = once.once in at_most_once at _ _ after c (omega (arith, most))
 
 -- none waits under the tag
-none_under : (tag : ℕ) (queue : List Tagged) → ((one : Tagged) → Among one queue → (one.tag == tag) ≡ false)
+pub none_under : (tag : ℕ) (queue : List Tagged) → ((one : Tagged) → Among one queue → (one.tag == tag) ≡ false)
     → waiting_under tag queue ≡ 0
 none_under tag [] free = refl
 none_under tag (one ∷ queue) free =

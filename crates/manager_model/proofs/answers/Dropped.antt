@@ -16,9 +16,8 @@ use Rattle.manager_model.specs.Handling.{is_of, is_open, is_under, left_to_wait,
 use Rattle.manager_model.specs.Handling as rules
 use Rattle.manager_model.specs.Hosting.{Coming, HasFreeTag, managed}
 use Rattle.manager_model.proofs.answers.Calls.{acknowledges_count, counts_none, cuts_count, cuts_nothing, expires_count}
-use Rattle.manager_model.proofs.answers.Calls.{joins_count}
-use Rattle.manager_model.proofs.answers.Calls.{receives_count, receives_nothing, scavenges_count, withdraws_count}
-use Rattle.manager_model.proofs.answers.Calls.{withdraws_nothing}
+use Rattle.manager_model.proofs.answers.Calls.{joins_count, none_under, receives_count, receives_nothing, scavenges_count}
+use Rattle.manager_model.proofs.answers.Calls.{withdraws_count, withdraws_nothing}
 use Rattle.manager_model.proofs.answers.Once.{Counts, counts_both, counts_fewer, counts_next, one_if}
 use Rattle.manager_model.proofs.passes.Alike.{any_passes}
 use Rattle.manager_model.proofs.passes.Enough.{InPass, in_pass}
@@ -98,7 +97,7 @@ put_leaves P file place queues queue all these =
     if_cases (λ (l : List Tagged). (one : Tagged) → Among one l → P one) (file == place) queue (queues file) these (λ apart. all)
 
 -- one of a list without one of its elements is on the list
-among_others : (x one : Tagged) (before behind : List Tagged) → Among x (before ++ behind) → Among x (before ++ one ∷ behind)
+pub among_others : (x one : Tagged) (before behind : List Tagged) → Among x (before ++ behind) → Among x (before ++ one ∷ behind)
 among_others x one [] behind there = inr there
 among_others x one (other ∷ before) behind (inl same) = inl same
 among_others x one (other ∷ before) behind (inr later) = inr (among_others x one before behind later)
@@ -294,15 +293,6 @@ some_under tag one (first ∷ queue) (inr later) is =
     let all = counts_next (λ (o : Tagged). o.tag == tag) first queue in
     let some = some_under tag one queue later is in omega (arith, all, some)
 
--- and where one is counted, there is one
-none_counted : (tag : ℕ) (queue : List Tagged) → ((one : Tagged) → Among one queue → (one.tag == tag) ≡ false)
-    → waiting_under tag queue ≡ 0
-none_counted tag [] free = refl
-none_counted tag (one ∷ queue) free =
-    let all = counts_next (λ (o : Tagged). o.tag == tag) one queue in
-    let here : one_if (one.tag == tag) ≡ 0 = ap one_if (free one (inl refl)) in
-    let rest = none_counted tag queue (λ other later. free other (inr later)) in omega (arith, all, here, rest)
-
 -- where one waits under a tag, it is the only one
 only_one : (tag : ℕ) (x y : Tagged) (queue : List Tagged) → waiting_under tag queue ≤ 1 → Among x queue → Among y queue
     → (x.tag == tag) ≡ true → (y.tag == tag) ≡ true → x ≡ y
@@ -391,7 +381,7 @@ left_one test one queue most there stays =
 
 left_none : (test : Tagged → Bool) (one : Tagged) (queue : List Tagged) → waiting_under one.tag queue ≤ 1 → Among one queue
     → test one ≡ true → waiting_under one.tag (without test queue) ≡ 0
-left_none test one queue most there goes = none_counted one.tag (without test queue) (λ other left.
+left_none test one queue most there goes = none_under one.tag (without test queue) (λ other left.
     let was = among_filter (λ (o : Tagged). not (test o)) other queue left in
     not_true (other.tag == one.tag) (λ its.
     let same = only_one one.tag other one queue most was.0 there its (own_tag one.tag) in

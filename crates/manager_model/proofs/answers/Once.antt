@@ -2,7 +2,8 @@
 use Rattle.std.specs.List.{count_by}
 use Rattle.std.proofs.lemmas.List.Sums.{sum_by-append}
 use Rattle.lease_laws.proofs.Words.{◌+◌, ◌++◌, ◌==◌, ◌∙◌, ◌∷◌, ◌≡◌, ◌≤◌, Bool, FileRequest, LeaseOf, List, Open, Option}
-use Rattle.lease_laws.proofs.Words.{Out, Outcome, Progress, Reply, Server, Status, ℕ, [], acknowledged, ap, arith, begun, concluded}
+use Rattle.lease_laws.proofs.Words.{Out, Outcome, Progress, Reply, Server, Status, ℕ, [], acknowledged, ap, arith, begun}
+use Rattle.lease_laws.proofs.Words.{concluded}
 use Rattle.lease_laws.proofs.Words.{eqb-true, false, filter, flat_map-append, if◌then◌else◌, map, nat_tests}
 use Rattle.lease_laws.proofs.Words.{refl, refusal_of, subst, sym, tried, true, without}
 use Rattle.lease_laws.proofs.Words.{Finding, Held, Want, by_open, finding, held_left, read_finding, tried_for, write_finding}

@@ -25,7 +25,7 @@ pub record Tells (Asked : Tagged → Type 0) (start : Server) (now : Handling) :
 
 -- ---- passes
 
-asked_put : (Asked : Tagged → Type 0) (queues : ℕ → List Tagged) (file : ℕ) (queue : List Tagged)
+pub asked_put : (Asked : Tagged → Type 0) (queues : ℕ → List Tagged) (file : ℕ) (queue : List Tagged)
     → ((at : ℕ) (one : Tagged) → Among one (queues at) → Asked one) → ((one : Tagged) → Among one queue → Asked one)
     → (at : ℕ) (one : Tagged) → Among one (put queues file queue at) → Asked one
 unfolding put
@@ -38,7 +38,7 @@ pub record PassTells (Asked : Tagged → Type 0) (start : Server) (waiting : Lis
   pub waits : (one : Tagged) → Among one waiting → Asked one
   pub tells : Tells Asked start pass.now
 
-passed_more : (Asked : Tagged → Type 0) (one : Tagged) (passed : List Tagged) → Asked one
+pub passed_more : (Asked : Tagged → Type 0) (one : Tagged) (passed : List Tagged) → Asked one
     → ((other : Tagged) → Among other passed → Asked other) → (other : Tagged) → Among other (passed ++ one ∷ []) → Asked other
 passed_more Asked one passed asked all other there = ⊎_elim (all other)
     (λ last. ⊎_elim (λ same. subst Asked (sym same) asked) (λ never. absurd never) last)

@@ -1,5 +1,6 @@
 -- Calls of a server, and of a manager with its host.
-use Rattle.lease_laws.proofs.Words.{◌++◌, ◌==◌, ◌∙◌, ◌∷◌, ◌≡◌, ◌≤◌, Among, Bool, Call, Err, FileRequest, Held, Key, LeaseOf, Option}
+use Rattle.lease_laws.proofs.Words.{◌++◌, ◌==◌, ◌∙◌, ◌∷◌, ◌≡◌, ◌≤◌, Among, Bool, Call, Err, FileRequest, Held, Key, LeaseOf}
+use Rattle.lease_laws.proofs.Words.{Option}
 use Rattle.lease_laws.proofs.Words.{List, Ok, Open, Outcome, Progress, Request}
 use Rattle.lease_laws.proofs.Words.{Result, Server, Status, Tried, ℕ, [], acknowledged, after_first_try, ap, append-nil}
 use Rattle.lease_laws.proofs.Words.{ap₂, arrived, arrived_before}
@@ -61,7 +62,7 @@ filled_more requests tag request (one ∷ queue) free = ap₂ (λ x xs. x ∷ xs
     other : (one.tag == tag) ≡ false → requests one.tag ≡ (if one.tag == tag then request else requests one.tag)
     other apart = rw (apart) refl
 
-asked_more : (requests : ℕ → FileRequest) (tag : ℕ) (request : FileRequest) (queue : List Tagged)
+pub asked_more : (requests : ℕ → FileRequest) (tag : ℕ) (request : FileRequest) (queue : List Tagged)
     → ((one : Tagged) → Among one queue → (one.tag == tag) ≡ false) → AreAsked requests queue
     → AreAsked (put requests tag request) queue
 unfolding put
