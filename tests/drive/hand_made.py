@@ -43,6 +43,28 @@ def lease(key: int, state: int, flags: int = 0, epoch: int | None = None) -> byt
     return struct.pack("<LHHHHL", 0, 16, 4, 0, 24, len(data)) + b"RqLs" + bytes(4) + data
 
 
+def context(name: bytes, data: bytes) -> bytes:
+    """A create context (2.2.13.2)."""
+    place = 16 + len(name) + -len(name) % 8
+    return struct.pack("<LHHHHL", 0, 16, len(name), 0, place, len(data)) + name + bytes(-len(name) % 8) + data
+
+
+def on_disk(file: int, volume: int = 1) -> bytes:
+    """The context QFid of a response (2.2.14.2.9)."""
+    return context(b"QFid", struct.pack("<QQ", file, volume) + bytes(16))
+
+
+def application(number: int) -> bytes:
+    """SMB2_CREATE_APP_INSTANCE_ID (2.2.13.2.13)."""
+    return context(bytes.fromhex("45bca66aefa7f74a9008fa462e144d74"), struct.pack("<HH", 20, 0) + bytes([number] * 16))
+
+
+def chain(*contexts: bytes) -> bytes:
+    """Contexts one after the other: each but the last is padded to a multiple of 8, and says where the next begins."""
+    padded = [one + bytes(-len(one) % 8) for one in contexts[:-1]]
+    return b"".join(struct.pack("<L", len(one)) + one[4:] for one in padded) + b"".join(contexts[-1:])
+
+
 def negotiate(guid: int) -> bytes:
     return message(0, struct.pack("<HHHHL", 36, 1, 1, 0, 0) + bytes([guid] * 16) + bytes(8) + struct.pack("<H", 0x210), 0)
 

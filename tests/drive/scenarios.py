@@ -3,19 +3,10 @@ from __future__ import annotations
 
 from collections.abc import Callable
 from functools import partial
-from typing import NamedTuple
 
 from tests.drive import hand_made
 from tests.drive.hand_made import H, Line, Made, R, W
-
-
-class Expected(NamedTuple):
-    """Whether the capture is unsafe with `--at client` and with `--at server`, and whether it is so at the server by what that
-    granted."""
-
-    at_client: bool
-    at_server: bool
-    is_granted: bool = False
+from tests.drive.which_file import WHICH_FILE, Expected
 
 
 NOT_UNSAFE = Expected(False, False)
@@ -381,4 +372,5 @@ SCENARIOS: dict[str, Callable[[Made], Expected]] = {
     "a break after the last close": break_after_the_last_close, "odd breaks": odd_breaks,
     **{f"two clients, {kind}": partial(of_two_clients, kind=kind)
        for kind in ("whole", "before", "dialect", "gap", "cut", "encrypted", "rename", "made again")},
+    **WHICH_FILE,
 }

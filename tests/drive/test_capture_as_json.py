@@ -12,6 +12,22 @@ from tests.drive.commands import ran
 from tests.paths import TOP, files_of, name_of
 
 
+def packet_of(moment: dict[str, Any] | None) -> str:
+    return f"packet {moment['packet']} at {moment['seconds']}" if moment else "no packet"
+
+
+def lease_line(lease: dict[str, Any]) -> str:
+    said, broken = f"{lease['state']} by {packet_of(lease['granted'])} to {lease['connection']}", lease["broken"]
+    if not broken:
+        since = "not broken since"
+    elif broken["acknowledged"]:
+        since = f"broken to {broken['state']} by {packet_of(broken['sent'])}, acknowledged by {packet_of(broken['acknowledged'])}"
+    else:
+        unanswered = ", not acknowledged" if broken["wants_acknowledgment"] else ""
+        since = f"broken to {broken['state']} by {packet_of(broken['sent'])}{unanswered}"
+    return f"    lease of {lease['client']}, ClientGuid {lease['guid']}, key {lease['key']}: {said}, {since}"
+
+
 def lines_of(found: dict[str, Any]) -> list[str]:
     """The lines that an object's values make, by the forms of docs/FORMATS.md."""
     lines = [found["verdict"]]
@@ -20,6 +36,7 @@ def lines_of(found: dict[str, Any]) -> list[str]:
         why = f", {file['reason']}" if file["reason"] else ""
         clients = "".join(f", {client}" for client in file["clients"])
         lines.append(f"file {file['server']} {file['path']}: {file['verdict']}{at}{why}{clients}")
+        lines += map(lease_line, file["leases"])
     for client in found["clients"]:
         after = f" after packet {client['packet']} at {client['seconds']}" if client["packet"] else ""
         lines.append(f"client {client['address']}: not judged{after}, {client['reason']}")

@@ -49,8 +49,8 @@ def write(file_id: int, offset: int = 3, data: bytes = b"bytes") -> Body:
     return Command.WRITE, struct.pack("<HHLQ16sLLHHL", 49, 112, len(data), offset, wire(file_id), 0, 0, 0, 0, 0) + data
 
 
-def read(file_id: int, length: int = 100) -> Body:
-    return Command.READ, struct.pack("<HBBLQ16sLLLHH", 49, 80, 0, length, 0, wire(file_id), 0, 0, 0, 0, 0) + b"\0"
+def read(file_id: int, length: int = 100, least: int = 0) -> Body:
+    return Command.READ, struct.pack("<HBBLQ16sLLLHH", 49, 80, 0, length, 0, wire(file_id), least, 0, 0, 0, 0) + b"\0"
 
 
 def close(file_id: int) -> Body:

@@ -53,6 +53,16 @@ def test_an_overwrite_begins_a_file_anew(served: ServerProcess, connect: Connect
     assert (anew.status, end_of_file(anew)) == (Status.SUCCESS, 0)
 
 
+@pytest.mark.parametrize("length, least, is_enough", [(0, 0, True), (0, 1, False), (8, 8, True), (100, 8, True), (100, 9, False)])
+def test_a_read_of_at_least_so_many_bytes(served: ServerProcess, connect: Connect, length: int, least: int,
+                                          is_enough: bool) -> None:
+    """Of a file of eight bytes; a READ that wants some at least, and gets fewer, has come to its end (3.3.5.12)."""
+    one = connect(served)
+    opened = one.open(create("file"))
+    one.ask(write(opened))
+    assert one.status(read(opened, length, least)) == (Status.SUCCESS if is_enough else Status.END_OF_FILE)
+
+
 def test_deletion(served: ServerProcess, connect: Connect) -> None:
     """A file goes with its last open; until then it is there for those that have it, and for nobody else."""
     one, other = connect(served), connect(served)

@@ -66,8 +66,8 @@ charge : (known : List Moment) (chains : List Chain) (beliefs : List Belief) (de
     → IsJudged known chains beliefs decided → (position : ℕ) × IsUnsafe chains position
 charge known chains beliefs judged.NoClient is judged = absurd (cc is)
 charge known chains beliefs judged.Safe is judged = absurd (cc is)
-charge known chains beliefs (judged.Unsafe moment) is judged = (judged.0, judged.1)
-charge known chains beliefs (judged.Granted moment) is judged = absurd judged
+charge known chains beliefs (judged.Unsafe clash) is judged = (clash.position, judged.0)
+charge known chains beliefs (judged.Granted clash) is judged = absurd judged
 charge known chains beliefs judged.Contradictory is judged = absurd (cc is)
 charge known chains beliefs judged.TooMany is judged = absurd (cc is)
 
@@ -76,8 +76,8 @@ cleared : (known : List Moment) (chains : List Chain) (beliefs : List Belief) (d
     → (chains ≢ []) × (steps : List Step) × IsPlacement chains steps × IsClean chains steps
 cleared known chains beliefs judged.NoClient is judged = absurd (cc is)
 cleared known chains beliefs judged.Safe is judged = (judged.0, reverse judged.1, judged.2.placed, judged.3)
-cleared known chains beliefs (judged.Unsafe moment) is judged = absurd (cc is)
-cleared known chains beliefs (judged.Granted moment) is judged = absurd judged
+cleared known chains beliefs (judged.Unsafe clash) is judged = absurd (cc is)
+cleared known chains beliefs (judged.Granted clash) is judged = absurd judged
 cleared known chains beliefs judged.Contradictory is judged = absurd (cc is)
 cleared known chains beliefs judged.TooMany is judged = absurd (cc is)
 
@@ -90,16 +90,16 @@ neither false one other first second is = cc (sym second ∙ is)
 
 by-held : (believed held : Judged) → is_unsafe believed ≡ false → is_unsafe (with_held believed held) ≡ true
     → is_unsafe held ≡ true
-by-held believed (judged.Unsafe moment) so is = refl
-by-held believed (judged.Granted moment) so is = refl
+by-held believed (judged.Unsafe clash) so is = refl
+by-held believed (judged.Granted clash) so is = refl
 by-held believed judged.NoClient so is = absurd (neither (is_safe believed) judged.NoClient believed refl so is)
 by-held believed judged.Safe so is = absurd (neither (is_safe believed) judged.Safe believed refl so is)
 by-held believed judged.Contradictory so is = absurd (neither (is_safe believed) judged.Contradictory believed refl so is)
 by-held believed judged.TooMany so is = absurd (neither (is_safe believed) judged.TooMany believed refl so is)
 
 either : (believed held : Judged) → is_unsafe (joined believed held) ≡ true → (is_unsafe believed ≡ true) ⊎ (is_unsafe held ≡ true)
-either (judged.Unsafe moment) held is = inl refl
-either (judged.Granted moment) held is = inl refl
+either (judged.Unsafe clash) held is = inl refl
+either (judged.Granted clash) held is = inl refl
 either judged.NoClient held is = inr (by-held judged.NoClient held refl is)
 either judged.Safe held is = inr (by-held judged.Safe held refl is)
 either judged.Contradictory held is = inr (by-held judged.Contradictory held refl is)
@@ -111,16 +111,16 @@ picked true believed held same is = (same, is)
 picked false believed held same is = absurd (cc (sym same ∙ is))
 
 safe-held : (believed held : Judged) → is_safe (with_held believed held) ≡ true → (is_safe believed ≡ true) × (is_safe held ≡ true)
-safe-held believed (judged.Unsafe moment) is = absurd (cc is)
-safe-held believed (judged.Granted moment) is = picked (is_safe believed) believed (judged.Granted moment) refl is
+safe-held believed (judged.Unsafe clash) is = absurd (cc is)
+safe-held believed (judged.Granted clash) is = picked (is_safe believed) believed (judged.Granted clash) refl is
 safe-held believed judged.NoClient is = picked (is_safe believed) believed judged.NoClient refl is
 safe-held believed judged.Safe is = picked (is_safe believed) believed judged.Safe refl is
 safe-held believed judged.Contradictory is = picked (is_safe believed) believed judged.Contradictory refl is
 safe-held believed judged.TooMany is = picked (is_safe believed) believed judged.TooMany refl is
 
 both : (believed held : Judged) → is_safe (joined believed held) ≡ true → (is_safe believed ≡ true) × (is_safe held ≡ true)
-both (judged.Unsafe moment) held is = absurd (cc is)
-both (judged.Granted moment) held is = absurd (cc is)
+both (judged.Unsafe clash) held is = absurd (cc is)
+both (judged.Granted clash) held is = absurd (cc is)
 both judged.NoClient held is = safe-held judged.NoClient held is
 both judged.Safe held is = safe-held judged.Safe held is
 both judged.Contradictory held is = safe-held judged.Contradictory held is

@@ -1,6 +1,6 @@
 -- What is said of a capture: of each file what is decided of it, and of the whole a verdict. Lines, and messages that are seen,
 -- have the newest one first.
-use Rattle.std.specs.Prelude.{◌≡◌, ◌≢◌, ◌-◌, ◌/◌, ℕ, nat_lt, Bool, true, false, not, ◌&&◌, if◌then◌else◌, ◌==◌, List, [], ◌∷◌, length}
+use Rattle.std.specs.Prelude.{◌≡◌, ◌≢◌, ◌-◌, ◌/◌, ℕ, nat_lt, Bool, true, false, not, ◌&&◌, if◌then◌else◌, ◌==◌, ⊤, List, [], ◌∷◌, length}
 use Rattle.std.specs.Prelude.{map, filter, reverse, Option, Some, None, slice_get}
 use Rattle.std.specs.List.{list_any, AllZip}
 use Rattle.std.specs.Option.{option_map}
@@ -15,15 +15,23 @@ use Rattle.capture_judge.specs.declared.values.Step.{Step}
 use Rattle.capture_walk.specs.Chains.{chains_on, files_in}
 use Rattle.capture_walk.specs.Tables.{tables_on}
 use Rattle.capture_walk.specs.Events.{events}
-use Rattle.capture_walk.specs.Files.{lives, place_of_life, Place}
+use Rattle.capture_walk.specs.Clients.{guid_of}
+use Rattle.capture_walk.specs.Files.{place_of_life, Place}
+use Rattle.capture_walk.specs.Opens.{lives}
+use Rattle.capture_walk.specs.Told.{leases_told}
+use Rattle.capture_walk.specs.declared.event.Acknowledged.{Acknowledged}
+use Rattle.capture_walk.specs.declared.event.Break.{Break}
 use Rattle.capture_walk.specs.declared.event.Event.{Event}
 use Rattle.capture_walk.specs.declared.event.Event.TheVariants as event
 use Rattle.capture_walk.specs.declared.event.Loss.{Loss}
 use Rattle.capture_walk.specs.declared.event.Misnumbered.{Misnumbered}
 use Rattle.capture_walk.specs.declared.note.Seen.{Seen}
+use Rattle.capture_walk.specs.declared.told.LeaseTold.{LeaseTold}
 use Rattle.capture_texts.specs.Captures.{Shows, moments, has_frame}
+use Rattle.capture_texts.specs.Connections.{client_in, ends_of}
 use Rattle.capture_texts.specs.Servers.{servers, address_of}
 use Rattle.capture_texts.specs.declared.finding.Belief.{Belief}
+use Rattle.capture_texts.specs.declared.finding.BreakFinding.{BreakFinding}
 use Rattle.capture_texts.specs.declared.finding.CaptureVerdict.{CaptureVerdict}
 use Rattle.capture_texts.specs.declared.finding.CaptureVerdict.TheVariants as verdict
 use Rattle.capture_texts.specs.declared.finding.ClientFinding.{ClientFinding}
@@ -33,6 +41,7 @@ use Rattle.capture_texts.specs.declared.finding.FileFinding.{FileFinding}
 use Rattle.capture_texts.specs.declared.finding.FilePlace.{FilePlace}
 use Rattle.capture_texts.specs.declared.finding.Judged.{Judged}
 use Rattle.capture_texts.specs.declared.finding.Judged.TheVariants as judged
+use Rattle.capture_texts.specs.declared.finding.LeaseFinding.{LeaseFinding}
 use Rattle.capture_texts.specs.declared.finding.Report.{Report}
 use Rattle.capture_texts.specs.declared.line.Line.{Line}
 use Rattle.capture_texts.specs.declared.line.Moment.{Moment}
@@ -41,9 +50,15 @@ use Rattle.capture_texts.specs.declared.line.Side.{Side}
 -- ---- what is decided of a file, by its chains
 
 abbrev pub is_unsafe : Judged → Bool
-is_unsafe (judged.Unsafe moment) = true
-is_unsafe (judged.Granted moment) = true
+is_unsafe (judged.Unsafe clash) = true
+is_unsafe (judged.Granted clash) = true
 is_unsafe _ = false
+
+-- up to which position clients clash, if they do
+abbrev pub until : Judged → Option ℕ
+until (judged.Unsafe clash) = Some clash.position
+until (judged.Granted clash) = Some clash.position
+until _ = None
 
 abbrev pub is_safe : Judged → Bool
 is_safe judged.Safe = true
@@ -80,10 +95,10 @@ abbrev pub IsJudged : List Moment → List Chain → List Belief → Judged → 
 IsJudged known chains beliefs judged.NoClient = (chains ≡ []) × (beliefs ≡ [])
 IsJudged known chains beliefs judged.Safe =
     (chains ≢ []) × (steps : List Step) × IsStory known chains beliefs steps × IsClean chains (reverse steps)
-IsJudged known chains beliefs (judged.Unsafe moment) =
-    (position : ℕ) × IsUnsafe chains position × (moment ≡ moment_at position known)
-    × (steps : List Step) × IsStory known chains beliefs steps × IsCleanBefore chains position (reverse steps)
-IsJudged known chains beliefs (judged.Granted moment) = ⊥
+IsJudged known chains beliefs (judged.Unsafe clash) =
+    IsUnsafe chains clash.position × (clash.moment ≡ moment_at clash.position known)
+    × (steps : List Step) × IsStory known chains beliefs steps × IsCleanBefore chains clash.position (reverse steps)
+IsJudged known chains beliefs (judged.Granted clash) = ⊥
 IsJudged known chains beliefs judged.Contradictory =
     ((steps : List Step) → IsPlacement chains steps → ⊥) × (beliefs ≡ [])
 IsJudged known chains beliefs judged.TooMany = IsCrowded chains × (beliefs ≡ [])
@@ -93,7 +108,7 @@ IsJudged known chains beliefs judged.TooMany = IsCrowded chains × (beliefs ≡ 
 -- Where what its clients cached clashes, it is unsafe; where only what the server held for them does, by what that granted. It is
 -- safe only by both.
 abbrev pub with_held : Judged → Judged → Judged
-with_held believed (judged.Unsafe moment) = judged.Granted moment
+with_held believed (judged.Unsafe clash) = judged.Granted clash
 with_held believed held = if is_safe believed then held else believed
 
 abbrev pub joined : Judged → Judged → Judged
@@ -112,6 +127,42 @@ pub record IsJudgedBy (known : List Moment) (chains tables : List Chain) (belief
   pub by-server : IsJudged known tables granted held
   pub decided-is : decided ≡ joined believed held
   pub told : beliefs ≡ beliefs_told believed held cached granted
+
+-- ---- what the server had said of leases
+
+-- nothing is told of leases where none clash
+abbrev pub told_until : ℕ → List Event → Option ℕ → List LeaseTold
+told_until file events None = []
+told_until file events (Some position) = leases_told file position events
+
+abbrev pub moment_given : Option Acknowledged → List Moment → Option Moment
+moment_given None known = None
+moment_given (Some given) known = moment_at given.last known
+
+pub record IsBreakFound (known : List Moment) (one : Break) (given : Option Acknowledged) (finding : BreakFinding) : Type 0 where
+  pub state_is : finding.state ≡ one.state
+  pub moment_is : finding.moment ≡ moment_at one.sent.position known
+  pub wanted_is : finding.wants_acknowledgment ≡ one.acknowledged
+  pub acknowledged_is : finding.acknowledged ≡ moment_given given known
+
+abbrev pub IsBreakOf : List Moment → Option Break → Option Acknowledged → Option BreakFinding → Type 0
+IsBreakOf known None given None = ⊤
+IsBreakOf known None given (Some finding) = ⊥
+IsBreakOf known (Some one) given None = ⊥
+IsBreakOf known (Some one) given (Some finding) = IsBreakFound known one given finding
+
+-- This is what was said of a lease.
+pub record IsLeaseFound (past : List Line) (seen : List Seen) (told : LeaseTold) (finding : LeaseFinding) : Type 0 where
+  pub client_is : finding.client.number ≡ told.grant.lease.client
+  pub guid_is : finding.guid ≡ guid_of told.grant.lease.client seen
+  pub key_is : finding.key ≡ told.grant.lease.key
+  pub state_is : finding.state ≡ told.grant.state
+  pub granted_is : finding.granted ≡ moment_at told.grant.sent.position (moments past)
+  pub connection_is : finding.connection ≡ client_in (ends_of told.grant.sent.connection past)
+  pub broken_is : IsBreakOf (moments past) told.broken told.acknowledged finding.broken
+
+abbrev pub AreLeasesFound : List Line → List Seen → List LeaseTold → List LeaseFinding → Type 0
+AreLeasesFound past seen told findings = AllZip (IsLeaseFound past seen) told findings
 
 -- ---- files
 
@@ -138,6 +189,7 @@ pub record IsFound (past : List Line) (seen : List Seen) (file : ℕ) (finding :
   pub holds : map shown tables ≡ tables_on file (events seen)
   pub judged_is : IsJudgedBy (moments past) chains tables finding.beliefs.items finding.judged
   pub clients_are : map number_named finding.clients.items ≡ map chain_client chains
+  pub leases_are : AreLeasesFound past seen (told_until file (events seen) (until finding.judged)) finding.leases.items
 
 -- one for each file, in their order
 abbrev pub AreFound : List Line → List Seen → List ℕ → List FileFinding → Type 0

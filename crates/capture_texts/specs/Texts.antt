@@ -1,11 +1,17 @@
 -- What people read of a report: a line of words for each finding, and one for what there is.
-use Rattle.std.specs.Prelude.{ℕ, ◌+◌, ◌-◌, ◌*◌, nat_le, nat_lt, Bool, false, ◌&&◌, ◌||◌, if◌then◌else◌}
+use Rattle.std.specs.Prelude.{ℕ, ◌+◌, ◌-◌, ◌*◌, nat_le, nat_lt, Bool, true, false, ◌&&◌, ◌||◌, if◌then◌else◌}
 use Rattle.std.specs.Prelude.{List, [], ◌∷◌, ◌++◌, codes, Option, Some, None}
 use Rattle.std.specs.Fmt.{decimal, digits}
 use Rattle.std.specs.List.{flat_map}
 use Rattle.std.specs.Char.{encode_utf8}
 use Rattle.hex.specs.Hex.{encode_lower}
+use Rattle.uuid.specs.Text.{hyphenated_text, lower}
+use Rattle.lease_state.specs.State.{state_of}
+use Rattle.lease_state.specs.declared.key.LeaseKey.{LeaseKey}
 use Rattle.lease_texts.specs.Quoting.{escaped}
+use Rattle.lease_texts.specs.Words.{state_word}
+use Rattle.capture_wire.specs.declared.field.Guid.{Guid}
+use Rattle.capture_texts.specs.declared.finding.BreakFinding.{BreakFinding}
 use Rattle.capture_texts.specs.declared.finding.ClientFinding.{ClientFinding}
 use Rattle.capture_texts.specs.declared.finding.ClientName.{ClientName}
 use Rattle.capture_texts.specs.declared.finding.Counts.{Counts}
@@ -13,6 +19,7 @@ use Rattle.capture_texts.specs.declared.finding.EpochFinding.{EpochFinding}
 use Rattle.capture_texts.specs.declared.finding.FileFinding.{FileFinding}
 use Rattle.capture_texts.specs.declared.finding.FilePlace.{FilePlace}
 use Rattle.capture_texts.specs.declared.finding.Judged.{Judged}
+use Rattle.capture_texts.specs.declared.finding.LeaseFinding.{LeaseFinding}
 use Rattle.capture_texts.specs.declared.finding.Judged.TheVariants as judged
 use Rattle.capture_texts.specs.declared.finding.Report.{Report}
 use Rattle.capture_texts.specs.declared.line.Moment.{Moment}
@@ -79,8 +86,8 @@ with_moment words None = words
 unfoldable pub judged_text : Judged → List ℕ
 judged_text judged.NoClient = codes "not judged, no client of it is"
 judged_text judged.Safe = codes "safe"
-judged_text (judged.Unsafe moment) = with_moment (codes "unsafe") moment
-judged_text (judged.Granted moment) = with_moment (codes "unsafe by the server's grants") moment
+judged_text (judged.Unsafe clash) = with_moment (codes "unsafe") clash.moment
+judged_text (judged.Granted clash) = with_moment (codes "unsafe by the server's grants") clash.moment
 judged_text judged.Contradictory = codes "not judged, what is shown can't have happened"
 judged_text judged.TooMany = codes "not judged, it can have happened in too many ways"
 
@@ -95,6 +102,43 @@ one_more name = codes ", " ++ client_text name
 unfoldable pub file_text : FileFinding → List ℕ
 file_text file =
     codes "file" ++ (where_text file.place ++ (codes ": " ++ (judged_text file.judged ++ flat_map one_more file.clients.items)))
+
+-- ---- what the server had said of a lease on it
+
+abbrev pub guid_text : Option Guid → List ℕ
+guid_text None = codes "unknown"
+guid_text (Some guid) = hyphenated_text lower guid.0
+
+abbrev pub by_text : Option Moment → List ℕ
+by_text None = []
+by_text (Some moment) = codes " by " ++ moment_text moment
+
+abbrev pub given_text : Option Moment → Bool → List ℕ
+given_text (Some moment) wanted = codes ", acknowledged by " ++ moment_text moment
+given_text None true = codes ", not acknowledged"
+given_text None false = []
+
+abbrev pub broken_text : Option BreakFinding → List ℕ
+broken_text None = codes ", not broken since"
+broken_text (Some one) = codes ", broken to " ++ (state_word (state_of one.state)
+    ++ (by_text one.moment ++ given_text one.acknowledged one.wants_acknowledgment))
+
+unfoldable pub owner_text : ClientName → List ℕ
+owner_text client = codes "    lease of " ++ client_text client
+
+unfoldable pub names_text : Option Guid → LeaseKey → List ℕ
+names_text guid key = codes ", ClientGuid " ++ (guid_text guid ++ (codes ", key " ++ hyphenated_text lower key.0))
+
+unfoldable pub granted_text : LeaseFinding → List ℕ
+granted_text finding = codes ": " ++ (state_word (state_of finding.state)
+    ++ (by_text finding.granted ++ (codes " to " ++ address_text finding.connection)))
+
+-- whose it is, what was granted by which packet to which address, and what broke it since
+unfoldable pub lease_text : LeaseFinding → List ℕ
+lease_text finding = owner_text finding.client ++ (names_text finding.guid finding.key
+    ++ (granted_text finding ++ broken_text finding.broken))
+
+-- ---- the others
 
 abbrev pub reason_text : NotJudged → List ℕ
 reason_text reason.Missing = codes "something of it is missing or can't be read"
@@ -132,6 +176,13 @@ counts_text counts = decimal counts.connections ++ (codes " connections, " ++ (d
 abbrev pub file_line : FileFinding → List ℕ
 file_line file = file_text file ++ 10 ∷ []
 
+abbrev pub lease_line : LeaseFinding → List ℕ
+lease_line finding = lease_text finding ++ 10 ∷ []
+
+-- a file with the leases that are told of it
+abbrev pub file_lines : FileFinding → List ℕ
+file_lines file = file_line file ++ flat_map lease_line file.leases.items
+
 abbrev pub lost_line : ClientFinding → List ℕ
 lost_line finding = lost_text finding ++ 10 ∷ []
 
@@ -139,5 +190,5 @@ abbrev pub epoch_line : EpochFinding → List ℕ
 epoch_line finding = epoch_text finding ++ 10 ∷ []
 
 unfoldable pub findings_text : Report → List ℕ
-findings_text report = flat_map file_line report.files.items ++ (flat_map lost_line report.clients.items
+findings_text report = flat_map file_lines report.files.items ++ (flat_map lost_line report.clients.items
     ++ (flat_map epoch_line report.epochs.items ++ (counts_text report.counts ++ 10 ∷ [])))

@@ -1,3 +1,4 @@
 pub mod Casts
 pub mod Changes
+pub mod Remarks
 pub mod Records

@@ -1,11 +1,12 @@
 ghost use Rattle.std.specs.Prelude.{◌≡◌, map};
 ghost use Rattle.std.specs.List.{list_any};
-ghost use Rattle.capture_texts.specs.Reports.{is_unsafe, is_safe, verdict_of};
+ghost use Rattle.capture_texts.specs.Reports.{is_unsafe, is_safe, until, verdict_of};
 
 use crate::line::Moment;
 use capture_judge::Level;
 use capture_walk::NotJudged;
-use lease_state::Bytes;
+use capture_wire::Guid;
+use lease_state::{Bytes, LeaseKey, LeaseState};
 
 /// Where a file is.
 #[derive(Debug, Drop)]
@@ -27,6 +28,15 @@ pub struct ClientName {
     pub address: Bytes,
 }
 
+/// Where what clients cache clashes by the latest.
+#[derive(Debug, Drop)]
+pub struct Clash {
+    /// Where it is among the lines: a number that grows with time.
+    pub position: u64,
+    /// The moment of the line.
+    pub moment: Option<Moment>,
+}
+
 /// What is decided of a file.
 #[derive(Debug, Drop)]
 pub enum Judged {
@@ -34,11 +44,11 @@ pub enum Judged {
     NoClient,
     /// What its clients cached may have gone together at all times.
     Safe,
-    /// Up to this moment two clients cached what doesn't go together, whatever happened between the packets.
-    Unsafe(Option<Moment>),
-    /// Up to this moment the server had granted two clients what doesn't go together, whatever they took and whatever happened
-    /// between the packets.
-    Granted(Option<Moment>),
+    /// Up to there two clients cached what doesn't go together, whatever happened between the packets.
+    Unsafe(Clash),
+    /// Up to there the server had granted two clients what doesn't go together, whatever they took and whatever happened between
+    /// the packets.
+    Granted(Clash),
     /// What the capture shows can't have happened.
     Contradictory,
     /// There are too many ways in which it can have happened.
@@ -58,6 +68,36 @@ pub struct Belief {
     pub moment: Option<Moment>,
 }
 
+/// A break of a lease (MS-SMB2 2.2.23).
+#[derive(Debug, Drop)]
+pub struct BreakFinding {
+    /// What it leaves.
+    pub state: LeaseState,
+    /// Where the server sent it.
+    pub moment: Option<Moment>,
+    /// Whether the client has to acknowledge it.
+    pub wants_acknowledgment: bool,
+    /// Where it did; none where it hadn't.
+    pub acknowledged: Option<Moment>,
+}
+
+/// What the server had said of a lease.
+#[derive(Debug, Drop)]
+pub struct LeaseFinding {
+    pub client: ClientName,
+    /// Its ClientGuid.
+    pub guid: Option<Guid>,
+    pub key: LeaseKey,
+    /// What the last CREATE response under the key granted.
+    pub state: LeaseState,
+    /// Where the server sent that.
+    pub granted: Option<Moment>,
+    /// The address to which it did; no byte where it isn't known.
+    pub connection: Bytes,
+    /// The last break since then.
+    pub broken: Option<BreakFinding>,
+}
+
 /// What is found of a file on which leases are granted.
 #[derive(Debug, Drop)]
 pub struct FileFinding {
@@ -71,6 +111,8 @@ pub struct FileFinding {
     /// where it is unsafe one by which it is up to then; where it is by what the server granted, what the server held for them.
     /// Nothing where what they cache isn't judged.
     pub beliefs: Vec<Belief>,
+    /// Where it is unsafe, what the server had said by then of each lease on it that hadn't ended: of which some clash.
+    pub leases: Vec<LeaseFinding>,
 }
 
 /// A client that isn't judged from some moment on.
@@ -134,6 +176,16 @@ impl Judged {
         ensures { result ≡ is_unsafe self.now }
     {
         matches!(self, Judged::Unsafe(_) | Judged::Granted(_))
+    }
+
+    /// Up to where, if they do.
+    pub(crate) fn until(&self) -> Option<u64>
+        ensures { result ≡ until self.now }
+    {
+        match self {
+            Judged::Unsafe(clash) | Judged::Granted(clash) => Some(clash.position),
+            _ => None,
+        }
     }
 
     /// Whether none do.

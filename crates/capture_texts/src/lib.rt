@@ -41,13 +41,13 @@ mod whole;
 
 pub use capture::Capture;
 pub use finding::{
-    Belief, CaptureVerdict, ClientFinding, ClientName, Counts, EpochFinding, FileFinding,
-    FilePlace, Judged, Report,
+    Belief, BreakFinding, CaptureVerdict, Clash, ClientFinding, ClientName, Counts, EpochFinding,
+    FileFinding, FilePlace, Judged, LeaseFinding, Report,
 };
 pub use laws::verdicts_are_of_files;
 pub use lease_texts::{LineFault, TextFault};
 pub use line::{Moment, Side};
 pub use names::{MessageName, MessageNames, MessagePart};
 pub use records::{RecordLine, notes_of, record_of};
-pub use texts::{push_counts, push_epoch, push_file, push_lost};
+pub use texts::{push_counts, push_epoch, push_file, push_lease, push_lost};
 pub use whole::read_capture;

@@ -4,7 +4,8 @@ ghost use Rattle.capture_texts.specs.Captures.{Knows, HasSeen, moment_kept, is_f
 ghost use Rattle.capture_texts.specs.Reports.{IsReport, IsFound, AreFound, IsBelief, AreBeliefs, IsJudged, joined, beliefs_told, moment_at, moment_since};
 ghost use Rattle.capture_texts.specs.Reports.{losses, with_loss, greater, is_of, IsClientFound, AreClientsFound};
 ghost use Rattle.capture_texts.specs.Reports.{epochs, IsEpochFound, AreEpochsFound, place_named, number_named, chain_client};
-ghost use Rattle.capture_texts.specs.Reports.{IsJudgedBy, is_safe};
+ghost use Rattle.capture_texts.specs.Reports.{IsJudgedBy, is_safe, told_until, moment_given};
+ghost use Rattle.capture_texts.specs.Reports.{IsBreakFound, IsBreakOf, IsLeaseFound, AreLeasesFound};
 ghost use Rattle.capture_texts.specs.declared.line.Line.{Line};
 ghost use Rattle.capture_walk.specs.Chains.{files_in};
 ghost use Rattle.capture_walk.specs.Events.{events};
@@ -13,11 +14,15 @@ ghost use Rattle.capture_walk.specs.declared.note.Seen.{Seen};
 
 use crate::capture::{Capture, Kept};
 use crate::finding::{
-    Belief, ClientFinding, ClientName, Counts, EpochFinding, FileFinding, FilePlace, Judged, Report,
+    Belief, BreakFinding, Clash, ClientFinding, ClientName, Counts, EpochFinding, FileFinding,
+    FilePlace, Judged, LeaseFinding, Report,
 };
 use crate::line::Moment;
 use capture_judge::{Chain, Level, Placing, Step, judge_placing, levels_after};
-use capture_walk::{Event, Loss, Misnumbered, Place, chains_on, files_in, tables_on};
+use capture_walk::{
+    Acknowledged, Break, Event, LeaseTold, Loss, Misnumbered, Place, chains_on, files_in,
+    leases_told, tables_on,
+};
 use lease_state::{Bytes, Memory};
 use std::alloc::Global;
 
@@ -45,6 +50,16 @@ fn moment_since(position: u64, kept: &[Kept]) -> Result<Option<Moment>, Memory>
         return Ok(None);
     }
     moment_at(position, kept)
+}
+
+// Where a client acknowledged a break, if it did.
+fn moment_given(given: Option<Acknowledged>, kept: &[Kept]) -> Result<Option<Moment>, Memory>
+    ensures { IfOk result (λ moment. moment ≡ moment_given given (map moment_kept kept.now)) }
+{
+    match given {
+        Some(given) => moment_at(given.last, kept),
+        None => Ok(None),
+    }
 }
 
 // What a step's client caches after it.
@@ -96,7 +111,11 @@ fn judge(alloc: Global, chains: &[Chain], kept: &[Kept]) -> Result<(Judged, Vec<
         )),
         Placing::Unsafe(charge) => {
             let beliefs = beliefs_by(alloc, chains, charge.steps.as_slice(), kept)?;
-            Ok((Judged::Unsafe(moment_at(charge.position, kept)?), beliefs))
+            let clash = Clash {
+                position: charge.position,
+                moment: moment_at(charge.position, kept)?,
+            };
+            Ok((Judged::Unsafe(clash), beliefs))
         }
         Placing::TooMany => Ok((Judged::TooMany, Vec::new(alloc))),
     }
@@ -117,7 +136,7 @@ fn joined(believed: Judged, held: Judged) -> Judged
         return believed;
     }
     match held {
-        Judged::Unsafe(moment) => Judged::Granted(moment),
+        Judged::Unsafe(clash) => Judged::Granted(clash),
         other => less_sure(believed, other),
     }
 }
@@ -244,6 +263,73 @@ impl Capture {
         Ok(clients)
     }
 
+    fn break_finding(
+        &self,
+        broken: Option<Break>,
+        given: Option<Acknowledged>,
+    ) -> Result<Option<BreakFinding>, Memory>
+        ensures { IfOk result (IsBreakOf (map moment_kept self.now.kept.items) broken given) }
+    {
+        let Some(one) = broken else {
+            return Ok(None);
+        };
+        Ok(Some(BreakFinding {
+            state: one.state,
+            moment: moment_at(one.sent.position, &self.kept)?,
+            wants_acknowledgment: one.acknowledged,
+            acknowledged: moment_given(given, &self.kept)?,
+        }))
+    }
+
+    fn lease_finding(&self, alloc: Global, told: &LeaseTold) -> Result<LeaseFinding, Memory>
+        ensures { IfOk result (λ finding. (past : List Line) (seen : List Seen) → HasSeen past seen self.now
+            → IsLeaseFound past seen told.now finding) }
+    {
+        let grant = told.grant;
+        Ok(LeaseFinding {
+            client: self.client_name(alloc, grant.lease.client)?,
+            guid: self.walking.walk.guid_of(grant.lease.client),
+            key: grant.lease.key,
+            state: grant.state,
+            granted: moment_at(grant.sent.position, &self.kept)?,
+            connection: copy_of(alloc, self.connections.client(grant.sent.connection))?,
+            broken: self.break_finding(told.broken, told.acknowledged)?,
+        })
+    }
+
+    // What was said of the leases on a file up to a position.
+    fn leases_until(
+        &self,
+        alloc: Global,
+        file: u64,
+        position: u64,
+    ) -> Result<Vec<LeaseFinding>, Memory>
+        ensures { IfOk result (λ findings. (past : List Line) (seen : List Seen) → HasSeen past seen self.now
+            → AreLeasesFound past seen (told_until file (events seen) (Some position)) findings.items) }
+    {
+        let mut findings = Vec::new(alloc);
+        for told in &leases_told(alloc, file, position, self.walking.walk.events())? {
+            findings.push(self.lease_finding(alloc, told)?)?;
+        }
+        Ok(findings)
+    }
+
+    // The same where something clashes.
+    fn lease_findings(
+        &self,
+        alloc: Global,
+        file: u64,
+        until: Option<u64>,
+    ) -> Result<Vec<LeaseFinding>, Memory>
+        ensures { IfOk result (λ findings. (past : List Line) (seen : List Seen) → HasSeen past seen self.now
+            → AreLeasesFound past seen (told_until file (events seen) until) findings.items) }
+    {
+        match until {
+            Some(position) => self.leases_until(alloc, file, position),
+            None => Ok(Vec::new(alloc)),
+        }
+    }
+
     // What is found of a file.
     fn file_finding(&self, alloc: Global, file: u64) -> Result<FileFinding, Memory>
         ensures { IfOk result (λ finding. (past : List Line) (seen : List Seen) → HasSeen past seen self.now
@@ -256,12 +342,14 @@ impl Capture {
             None => None,
         };
         let (judged, beliefs) = judge_both(alloc, &chains, &tables, &self.kept)?;
+        let leases = self.lease_findings(alloc, file, judged.until())?;
         Ok(FileFinding {
             file,
             place,
             judged,
             clients: self.clients_of(alloc, &chains)?,
             beliefs,
+            leases,
         })
     }
 

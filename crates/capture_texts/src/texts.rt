@@ -5,18 +5,24 @@ ghost use Rattle.std.specs.String.{string_bytes};
 ghost use Rattle.hex.specs.Hex.{encode_lower};
 ghost use Rattle.capture_texts.specs.Texts.{address_text, are_pair, at_text, client_text, counts_text, epoch_text, file_text};
 ghost use Rattle.capture_texts.specs.Texts.{is_from_to, is_hidden, judged_text, letter_text, lost_text, moment_text, name_text, one_more};
+ghost use Rattle.capture_texts.specs.Texts.{broken_text, by_text, given_text, granted_text, guid_text, lease_text, names_text, owner_text};
+ghost use Rattle.uuid.specs.Text.{hyphenated_text, lower};
+ghost use Rattle.capture_texts.specs.records.Remarks.{command_words, part_words};
 ghost use Rattle.capture_texts.specs.Texts.{pair_of, place_text, reason_text, since_text, unit, unjudged_text, where_text, with_moment};
 
 use crate::finding::{
-    CaptureVerdict, ClientFinding, ClientName, Counts, EpochFinding, FileFinding, FilePlace, Judged,
+    BreakFinding, CaptureVerdict, ClientFinding, ClientName, Counts, EpochFinding, FileFinding,
+    FilePlace, Judged, LeaseFinding,
 };
 use crate::line::Moment;
 use crate::names::{MessageName, MessagePart};
 use capture_walk::NotJudged;
-use capture_wire::Command;
-use lease_texts::push_all_escaped;
+use capture_wire::{Command, Guid};
+use lease_state::{Bytes, LeaseKey};
+use lease_texts::{push_all_escaped, state_letters};
 use std::alloc::{AllocError, Global};
 use std::fmt;
+use uuid::Uuid;
 
 fn is_from_to(first: u32, behind: u32, code: u32) -> bool
     ensures { result ≡ is_from_to first behind code }
@@ -141,11 +147,7 @@ pub(crate) fn push_client(
 ) -> Result<(), AllocError>
     ensures { OnOk result (string_bytes text.new ≡ string_bytes text.old ++ client_text name.now) }
 {
-    if name.address.is_empty() {
-        text.push_str("unknown")
-    } else {
-        push_all_escaped(alloc, text, name.address.as_slice())
-    }
+    push_address(alloc, text, &name.address)
 }
 
 #[tactic(auto, unfolding(crate::specs::Texts::moment_text))]
@@ -184,12 +186,12 @@ fn push_judged(alloc: Global, text: &mut String, judged: &Judged) -> Result<(), 
     match judged {
         Judged::NoClient => text.push_str("not judged, no client of it is"),
         Judged::Safe => text.push_str("safe"),
-        Judged::Unsafe(moment) => push_with_moment(alloc, text, "unsafe", moment),
-        Judged::Granted(moment) => push_with_moment(
+        Judged::Unsafe(clash) => push_with_moment(alloc, text, "unsafe", &clash.moment),
+        Judged::Granted(clash) => push_with_moment(
             alloc,
             text,
             "unsafe by the server's grants",
-            moment,
+            &clash.moment,
         ),
         Judged::Contradictory => text.push_str("not judged, what is shown can't have happened"),
         Judged::TooMany => text.push_str("not judged, it can have happened in too many ways"),
@@ -231,6 +233,130 @@ pub fn push_file(alloc: Global, text: &mut String, file: &FileFinding) -> Result
     text.push_str(": ")?;
     push_judged(alloc, text, &file.judged)?;
     push_more(alloc, text, file.clients.as_slice())
+}
+
+fn push_sixteen(text: &mut String, bytes: [u8; 16]) -> Result<(), AllocError>
+    ensures { OnOk result (string_bytes text.new ≡ string_bytes text.old ++ hyphenated_text lower bytes) }
+{
+    let mut buffer = [0; 36];
+    text.push_str(
+        Uuid::from_bytes(bytes)
+            .hyphenated()
+            .encode_lower(&mut buffer),
+    )
+}
+
+fn push_guid(text: &mut String, guid: Option<Guid>) -> Result<(), AllocError>
+    ensures { OnOk result (string_bytes text.new ≡ string_bytes text.old ++ guid_text guid) }
+{
+    match guid {
+        Some(guid) => push_sixteen(text, guid.0),
+        None => text.push_str("unknown"),
+    }
+}
+
+fn push_address(alloc: Global, text: &mut String, address: &Bytes) -> Result<(), AllocError>
+    ensures { OnOk result (string_bytes text.new ≡ string_bytes text.old ++ address_text address.now) }
+{
+    if address.is_empty() {
+        text.push_str("unknown")
+    } else {
+        push_all_escaped(alloc, text, address.as_slice())
+    }
+}
+
+fn push_by(alloc: Global, text: &mut String, moment: &Option<Moment>) -> Result<(), AllocError>
+    ensures { OnOk result (string_bytes text.new ≡ string_bytes text.old ++ by_text moment.now) }
+{
+    if let Some(moment) = moment {
+        text.push_str(" by ")?;
+        push_moment(alloc, text, moment)?;
+    }
+    Ok(())
+}
+
+fn push_given(
+    alloc: Global,
+    text: &mut String,
+    is_wanted: bool,
+    moment: &Option<Moment>,
+) -> Result<(), AllocError>
+    ensures { OnOk result (string_bytes text.new ≡ string_bytes text.old ++ given_text moment.now is_wanted) }
+{
+    match moment {
+        Some(moment) => {
+            text.push_str(", acknowledged by ")?;
+            push_moment(alloc, text, moment)?;
+        }
+        None if is_wanted => text.push_str(", not acknowledged")?,
+        None => {}
+    }
+    Ok(())
+}
+
+fn push_broken(
+    alloc: Global,
+    text: &mut String,
+    broken: &Option<BreakFinding>,
+) -> Result<(), AllocError>
+    ensures { OnOk result (string_bytes text.new ≡ string_bytes text.old ++ broken_text broken.now) }
+{
+    let Some(one) = broken else {
+        return text.push_str(", not broken since");
+    };
+    text.push_str(", broken to ")?;
+    text.push_str(state_letters(one.state))?;
+    push_by(alloc, text, &one.moment)?;
+    push_given(alloc, text, one.wants_acknowledgment, &one.acknowledged)
+}
+
+#[tactic(auto, unfolding(crate::specs::Texts::owner_text))]
+fn push_owner(alloc: Global, text: &mut String, client: &ClientName) -> Result<(), AllocError>
+    ensures { OnOk result (string_bytes text.new ≡ string_bytes text.old ++ owner_text client.now) }
+{
+    text.push_str("    lease of ")?;
+    push_client(alloc, text, client)?;
+    Ok(())
+}
+
+#[tactic(auto, unfolding(crate::specs::Texts::names_text))]
+fn push_names(text: &mut String, guid: Option<Guid>, key: LeaseKey) -> Result<(), AllocError>
+    ensures { OnOk result (string_bytes text.new ≡ string_bytes text.old ++ names_text guid key) }
+{
+    text.push_str(", ClientGuid ")?;
+    push_guid(text, guid)?;
+    text.push_str(", key ")?;
+    push_sixteen(text, key.0)
+}
+
+#[tactic(auto, unfolding(crate::specs::Texts::granted_text))]
+fn push_granted(alloc: Global, text: &mut String, finding: &LeaseFinding) -> Result<(), AllocError>
+    ensures { OnOk result (string_bytes text.new ≡ string_bytes text.old ++ granted_text finding.now) }
+{
+    text.push_str(": ")?;
+    text.push_str(state_letters(finding.state))?;
+    push_by(alloc, text, &finding.granted)?;
+    text.push_str(" to ")?;
+    push_address(alloc, text, &finding.connection)
+}
+
+/// The same of a lease on a file: whose it is, what was granted by which packet to which address, and what broke it since.
+///
+/// # Errors
+///
+/// `AllocError` where there is no memory for it.
+#[tactic(auto, unfolding(crate::specs::Texts::lease_text))]
+pub fn push_lease(
+    alloc: Global,
+    text: &mut String,
+    finding: &LeaseFinding,
+) -> Result<(), AllocError>
+    ensures { OnOk result (string_bytes text.new ≡ string_bytes text.old ++ lease_text finding.now) }
+{
+    push_owner(alloc, text, &finding.client)?;
+    push_names(text, finding.guid, finding.key)?;
+    push_granted(alloc, text, finding)?;
+    push_broken(alloc, text, &finding.broken)
 }
 
 fn reason_text(reason: NotJudged) -> &'static str
@@ -332,7 +458,9 @@ pub fn push_counts(text: &mut String, counts: Counts) -> Result<(), AllocError>
 }
 
 // The name of a command, as MS-SMB2 2.2.1 has it.
-fn command_word(command: Command) -> &'static str {
+pub(crate) fn command_words(command: Command) -> &'static str
+    ensures { result.now ≡ command_words command }
+{
     match command {
         Command::Negotiate => "NEGOTIATE",
         Command::SessionSetup => "SESSION_SETUP",
@@ -357,14 +485,20 @@ fn command_word(command: Command) -> &'static str {
     }
 }
 
+pub(crate) fn part_words(part: MessagePart) -> &'static str
+    ensures { result.now ≡ part_words part }
+{
+    match part {
+        MessagePart::Request => " request",
+        MessagePart::Response => " response",
+        MessagePart::Notification => " notification",
+    }
+}
+
 impl fmt::Display for MessageName {
     fn fmt<W: fmt::Write>(&self, f: &mut fmt::Formatter<W>) -> fmt::Result {
-        f.write_str(command_word(self.command))?;
-        f.write_str(match self.part {
-            MessagePart::Request => " request",
-            MessagePart::Response => " response",
-            MessagePart::Notification => " notification",
-        })
+        f.write_str(command_words(self.command))?;
+        f.write_str(part_words(self.part))
     }
 }
 

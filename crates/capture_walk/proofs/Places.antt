@@ -2,7 +2,9 @@
 use Rattle.std.proofs.Common.{◌≡◌, ℕ, ◌==◌, ◌&&◌, if◌then◌else◌, Bool, true, false, List, [], ◌∷◌, Option, Some, refl, arith}
 use Rattle.std.proofs.lemmas.Slice.Eq.{bytes_eq-Decides}
 use Rattle.std.specs.Str.{bytes_eq}
-use Rattle.capture_walk.specs.Files.{Place, is_same_place, file_in, place_of_named, share_of}
+use Rattle.capture_walk.specs.Files.{Place, is_same_place, file_in, place_of_named, share_of, is_same_identity, identified_in}
+use Rattle.capture_walk.specs.declared.files.Identified.{Identified}
+use Rattle.capture_walk.specs.declared.files.Identity.{Identity}
 use Rattle.capture_walk.specs.declared.files.Named.{Named}
 
 and_left : (a b : Bool) → (a && b) ≡ true → a ≡ true
@@ -54,3 +56,16 @@ found_same one other (named ∷ table) is =
     chosen (is_same_place (place_of_named named) one) (is_same_place (place_of_named named) other) (Some named.file)
     (file_in one table) (file_in other table)
     (same_places (place_of_named named) one other is) (found_same one other table is)
+
+same_identities : (one other third : Identity) → is_same_identity one other ≡ true
+    → is_same_identity third one ≡ is_same_identity third other
+same_identities one other third is = grind (arith, is)
+
+-- so has the same identity
+pub identified_same : (one other : Identity) (table : List Identified) → is_same_identity one other ≡ true
+    → identified_in one table ≡ identified_in other table
+identified_same one other [] is = refl
+identified_same one other (entry ∷ table) is =
+    chosen (is_same_identity entry.identity one) (is_same_identity entry.identity other) (Some entry.file)
+    (identified_in one table) (identified_in other table)
+    (same_identities one other entry.identity is) (identified_same one other table is)

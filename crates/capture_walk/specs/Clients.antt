@@ -28,6 +28,16 @@ abbrev pub client_of : ℕ → List Seen → Option ℕ
 client_of connection [] = None
 client_of connection (seen ∷ past) = client_by connection seen (negotiated seen.note) past (client_of connection past)
 
+-- the ClientGuid of a client, by its number
+abbrev pub guid_by : ℕ → Seen → Option Guid → List Seen → Option Guid → Option Guid
+guid_by client seen (Some guid) past before =
+    if unwrap_or (first_negotiate guid.0 past) seen.number == client then Some guid else before
+guid_by client seen None past before = before
+
+abbrev pub guid_of : ℕ → List Seen → Option Guid
+guid_of client [] = None
+guid_of client (seen ∷ past) = guid_by client seen (negotiated seen.note) past (guid_of client past)
+
 -- ---- the table, which has the newest entry first
 
 abbrev pub number_in : List ℕ → List Known → Option ℕ
@@ -38,6 +48,11 @@ abbrev pub client_in : ℕ → List Known → Option ℕ
 client_in connection [] = None
 client_in connection (known ∷ table) = if known.connection == connection then Some known.client else client_in connection table
 
+abbrev pub guid_in : ℕ → List Known → Option Guid
+guid_in client [] = None
+guid_in client (known ∷ table) = if known.client == client then Some known.guid else guid_in client table
+
 pub record KnowsClients (past : List Seen) (clients : Clients) : Type 0 where
   pub numbers : (guid : List ℕ) → number_in guid clients.known.items ≡ first_negotiate guid past
   pub connections : (connection : ℕ) → client_in connection clients.known.items ≡ client_of connection past
+  pub guids : (client : ℕ) → guid_in client clients.known.items ≡ guid_of client past

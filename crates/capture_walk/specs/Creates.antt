@@ -22,6 +22,7 @@ create_of seen asked = record {
   key = asked.key;
   unnamed = asked.unnamed;
   closes = asked.closes;
+  application = asked.application;
   remade = false;
 }
 
@@ -36,6 +37,7 @@ with_remade one = record {
   key = one.key;
   unnamed = one.unnamed;
   closes = one.closes;
+  application = one.application;
   remade = true;
 }
 

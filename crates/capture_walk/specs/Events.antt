@@ -10,8 +10,7 @@ use Rattle.capture_walk.specs.Sides.{KnowsSides, missing_since}
 use Rattle.capture_walk.specs.Trees.{KnowsTrees}
 use Rattle.capture_walk.specs.Creates.{KnowsCreates}
 use Rattle.capture_walk.specs.Renames.{KnowsRenames}
-use Rattle.capture_walk.specs.Files.{KnowsFiles, remade}
-use Rattle.capture_walk.specs.Opens.{opens, made, ends, is_named}
+use Rattle.capture_walk.specs.Opens.{opens, made, ends, is_named, is_under, remade, KnowsFiles}
 use Rattle.capture_walk.specs.Chains.{is_same}
 use Rattle.capture_walk.specs.declared.note.Note.{Note}
 use Rattle.capture_walk.specs.declared.note.Note.TheVariants as note
@@ -35,10 +34,6 @@ use Rattle.capture_judge.specs.declared.values.Level.{Level}
 use Rattle.capture_judge.specs.declared.values.Level.TheVariants as level
 
 -- ---- what is looked up in the opens
-
-abbrev pub is_under : ℕ → List ℕ → Option Lease → Bool
-is_under client key None = false
-is_under client key (Some lease) = lease.client == client && bytes_eq lease.key.0 key
 
 -- the last open of a client with a lease under a key
 abbrev pub open_under : Option ℕ → List ℕ → List Open → Option Open
@@ -120,8 +115,8 @@ is_of lease None = false
 is_of lease (Some other) = is_same other lease
 
 -- an open under the lease that is left
-abbrev pub keeps : Seen → Lease → Open → Bool
-keeps seen lease one = not (ends seen one) && is_of lease one.lease
+abbrev pub keeps : Option Open → Seen → Lease → Open → Bool
+keeps made seen lease one = not (ends made seen one) && is_of lease one.lease
 
 -- the MessageId of a CLOSE
 abbrev pub closing : Note → Option ℕ
@@ -129,10 +124,10 @@ closing (note.Close name) = Some name.id
 closing _ = None
 
 -- the lease ends where no open under it is left
-abbrev pub ended_lease : Seen → List Open → Option Lease → List Event
-ended_lease seen held None = []
-ended_lease seen held (Some lease) =
-    if list_any (keeps seen lease) held then []
+abbrev pub ended_lease : Option Open → Seen → List Open → Option Lease → List Event
+ended_lease made seen held None = []
+ended_lease made seen held (Some lease) =
+    if list_any (keeps made seen lease) held then []
     else event.Ended (record {
       lease = lease;
       first = seen.earliest;
@@ -145,11 +140,13 @@ abbrev pub closed : ℕ → Option Lease → List Event
 closed number None = []
 closed number (Some lease) = event.Closed (record { opened = number }) ∷ []
 
-abbrev pub ended_by : Seen → List Open → Open → List Event
-ended_by seen held one = if ends seen one then closed one.number one.lease ++ ended_lease seen held one.lease else []
+abbrev pub ended_by : Option Open → Seen → List Open → Open → List Event
+ended_by made seen held one =
+    if ends made seen one then closed one.number one.lease ++ ended_lease made seen held one.lease else []
 
-abbrev pub ended : Seen → List Open → List Event
-ended seen held = flat_map (ended_by seen held) held
+-- by the open that the message makes
+abbrev pub ended : Option Open → Seen → List Open → List Event
+ended made seen held = flat_map (ended_by made seen held) held
 
 -- ---- what a message tells besides
 
@@ -258,8 +255,14 @@ strayed lease connection asked before =
 -- ---- grants and breaks
 
 abbrev pub grant_of : Seen → LeaseGiven → Lease → ℕ → Grant
-grant_of seen given lease asked =
-    record { lease = lease; level = given.level; sent = sent_at seen; asked = asked; epoch = given.epoch }
+grant_of seen given lease asked = record {
+  lease = lease;
+  state = given.state;
+  level = given.level;
+  sent = sent_at seen;
+  asked = asked;
+  epoch = given.epoch;
+}
 
 abbrev pub granted_lease : Seen → LeaseGiven → Lease → ℕ → Option Said → List Event
 granted_lease seen given lease asked said =
@@ -295,6 +298,7 @@ new_epoch (Some said) epoch = option_map (λ old. epoch) said.epoch
 abbrev pub break_of : Seen → BreakNote → Lease → Option Said → Break
 break_of seen one lease said = record {
   lease = lease;
+  state = one.state;
   level = one.level;
   sent = sent_at seen;
   acknowledged = one.acknowledged;
@@ -400,7 +404,7 @@ with_told seen past before =
 abbrev pub events : List Seen → List Event
 events [] = []
 events (seen ∷ past) = with_told seen past
-    (((events past ++ heard seen (client_of seen.connection past) (opens past)) ++ ended seen (opens past))
+    (((events past ++ heard seen (client_of seen.connection past) (opens past)) ++ ended (made seen past) seen (opens past))
     ++ told_remade (remade seen past))
 
 -- The walk knows what these messages show.

@@ -1,22 +1,26 @@
--- Files: each of a server, a share, a name, a time at which it was made, and one life. Messages that are called past have the newest one first, and so
--- has the table.
-use Rattle.std.specs.Prelude.{◌≡◌, ℕ, ◌==◌, ◌&&◌, ◌||◌, not, Bool, true, false, if◌then◌else◌, List, [], ◌∷◌, ◌++◌, Option, Some, None}
+-- Files: each of a server, and one life. Answers tell which file they are of by what it is on the server's disk, where they have
+-- that, and else by a share, a name and a time at which it was made. Messages that are called past have the newest one first, and
+-- so have the tables.
+use Rattle.std.specs.Prelude.{ℕ, ◌==◌, ◌&&◌, ◌||◌, not, Bool, true, false, if◌then◌else◌, List, [], ◌∷◌, Option, Some, None}
 use Rattle.std.specs.Prelude.{unwrap_or, bytes_eq}
-use Rattle.capture_walk.specs.Notes.{create_given}
-use Rattle.capture_walk.specs.Renames.{is_change}
+use Rattle.std.specs.Option.{option_map}
+use Rattle.capture_wire.specs.declared.contexts.FileOnDisk.{FileOnDisk}
 use Rattle.capture_walk.specs.Trees.{path_of}
 use Rattle.capture_walk.specs.Creates.{pending}
 use Rattle.capture_walk.specs.declared.note.CreateGiven.{CreateGiven}
 use Rattle.capture_walk.specs.declared.note.Seen.{Seen}
 use Rattle.capture_walk.specs.declared.creates.Create.{Create}
 use Rattle.capture_walk.specs.declared.event.Remade.{Remade}
+use Rattle.capture_walk.specs.declared.files.Identity.{Identity}
+use Rattle.capture_walk.specs.declared.files.Identified.{Identified}
 use Rattle.capture_walk.specs.declared.files.Named.{Named}
 use Rattle.capture_walk.specs.declared.files.Files.{Files}
 use Rattle.capture_walk.specs.declared.files.Place as declared
+use Rattle.capture_walk.specs.declared.files.Naming.{Naming as NamingDeclared}
 
--- Where a file is, and when it was made: names that differ in a byte are those of different files, and so are times. One name may
--- lead to several files, as where a share has a folder of its own for each user; and a file whose CreationTime is set anew
--- (MS-FSCC 2.4.7) is taken for another one, so that one key may have been seen for two files.
+-- Where a file is, and when it was made: names that differ in a byte are those of different files, and so are times, unless
+-- something else shows which file it is. One name may lead to several files, as where a share has a folder of its own for each
+-- user.
 pub record Place : Type 0 where
   pub server : ℕ
   pub path : List ℕ
@@ -53,7 +57,16 @@ abbrev pub place_of_named : Named → Place
 place_of_named one =
     record { server = one.server; path = one.path; name = one.name; creation_time = one.creation_time }
 
--- ---- by looking back
+-- a file on a disk of a server, by the time at which it was made too, since a server may give an id again once the file is gone
+abbrev pub identity_at : ℕ → ℕ → FileOnDisk → Identity
+identity_at server creation_time one =
+    record { server = server; file = one.file; volume = one.volume; creation_time = creation_time }
+
+abbrev pub is_same_identity : Identity → Identity → Bool
+is_same_identity one other =
+    (one.server == other.server && one.creation_time == other.creation_time) && (one.file == other.file && one.volume == other.volume)
+
+-- ---- what a CREATE response says of its file
 
 -- The file isn't the one that has the name, or another one was made under its name while its answer was on its way: then it may
 -- be either, unless this CREATE made it.
@@ -78,26 +91,78 @@ place_given seen given past =
     place_by seen.server (pending seen.connection given.id past) given
     (create_path seen.server given.session (pending seen.connection given.id past) past)
 
--- the file that a CREATE opens, by the message's number: the one that has its name, or one whose life begins with it
+-- What it is known by: its place, where the name is sure to lead to it, what it is on the disk, where the response has that, and the
+-- file of the lease under whose key it is granted one.
+pub record Naming : Type 0 where
+  pub place : Option Place
+  pub identity : Option Identity
+  pub under : Option ℕ
+
+-- Nothing where its request and its tree connect weren't seen, or where it isn't the file that has the name.
+abbrev pub naming_by : ℕ → Option Create → CreateGiven → Option (List ℕ) → Option ℕ → Option Naming
+naming_by server None given path under = None
+naming_by server (Some create) given None under = None
+naming_by server (Some create) given (Some path) under =
+    if create.unnamed then None
+    else Some (record {
+      place = place_by server (Some create) given (Some path);
+      identity = option_map (identity_at server given.creation_time) given.on_disk;
+      under = under;
+    })
+
+-- by the file of the lease
+abbrev pub naming_given : Seen → CreateGiven → Option ℕ → List Seen → Option Naming
+naming_given seen given under past =
+    naming_by seen.server (pending seen.connection given.id past) given
+    (create_path seen.server given.session (pending seen.connection given.id past) past) under
+
+-- ---- which file it is
+
+abbrev pub either : Option ℕ → Option ℕ → Option ℕ
+either (Some file) other = Some file
+either None other = other
+
+-- the file that is found, or one whose life begins with the message
 abbrev pub file_opened : Bool → ℕ → Option ℕ → ℕ
-file_opened is_new number before = if is_new then number else unwrap_or before number
+file_opened is_new number found = if is_new then number else unwrap_or found number
 
-abbrev pub file_by : Place → Option Place → Bool → ℕ → Option ℕ → Option ℕ
-file_by place None is_new number before = before
-file_by place (Some other) is_new number before =
-    if is_same_place other place then Some (file_opened is_new number before) else before
+-- By the disk before all else, and by the name before the key: while a lease is held under a key the server refuses that key for
+-- another file (MS-SMB2 3.3.5.9.8), so it tells the file where names may have changed.
+abbrev pub file_found : Option ℕ → Option ℕ → Option ℕ → Option ℕ
+file_found identified named under = either identified (either named under)
 
--- the file at a place after one more message, by the CREATE response that it may be; a server may have several addresses, so that
--- names change at each of them
-abbrev pub file_after : Place → Seen → List Seen → Option CreateGiven → Option ℕ → Option ℕ
-file_after place seen past (Some given) before =
-    file_by place (place_given seen given past) given.is_new seen.number before
-file_after place seen past None before = if is_change seen past then None else before
+-- where its name isn't sure to lead to it, one that is found in another way
+abbrev pub file_by : Bool → ℕ → Option Place → Option ℕ → Option ℕ
+file_by is_new number None found = found
+file_by is_new number (Some place) found = Some (file_opened is_new number found)
 
--- the file at a place, by the number of the message with which its life began
-abbrev pub file_of : Place → List Seen → Option ℕ
-file_of place [] = None
-file_of place (seen ∷ past) = file_after place seen past (create_given seen.note) (file_of place past)
+-- the life that begins with the message, if one does
+abbrev pub life_at : Place → Bool → ℕ → Option ℕ → List Named
+life_at place true number found = named_at place number ∷ []
+life_at place false number None = named_at place number ∷ []
+life_at place false number (Some file) = []
+
+abbrev pub life_by : Option Place → Bool → ℕ → Option ℕ → List Named
+life_by None is_new number found = []
+life_by (Some place) is_new number found = life_at place is_new number found
+
+-- the file at a place, after a CREATE response whose file is at another one, or isn't known
+abbrev pub placed_at : Place → Place → ℕ → Option ℕ → Option ℕ
+placed_at place other file before = if is_same_place other place then Some file else before
+
+abbrev pub placed : Place → Option Place → Option ℕ → Option ℕ → Option ℕ
+placed place None file before = before
+placed place (Some other) None before = before
+placed place (Some other) (Some file) before = placed_at place other file before
+
+-- and on a disk
+abbrev pub identified_as : Identity → Identity → ℕ → Option ℕ → Option ℕ
+identified_as identity other file before = if is_same_identity other identity then Some file else before
+
+abbrev pub identified : Identity → Option Identity → Option ℕ → Option ℕ → Option ℕ
+identified identity None file before = before
+identified identity (Some other) None before = before
+identified identity (Some other) (Some file) before = identified_as identity other file before
 
 -- What a CREATE response says was made in the place of another file, which isn't known to be opened by its name from where the
 -- request was: the answers to others that come between may be of either.
@@ -105,43 +170,12 @@ abbrev pub remade_in : Bool → Option Create → Option ℕ → Option Remade
 remade_in true (Some create) (Some file) = Some (record { file = file; since = create.position })
 remade_in is_new create file = None
 
-abbrev pub file_in_place : Option Place → List Seen → Option ℕ
-file_in_place None past = None
-file_in_place (Some place) past = file_of place past
-
-abbrev pub remade_by : Seen → Option CreateGiven → List Seen → Option Remade
-remade_by seen None past = None
-remade_by seen (Some given) past =
-    remade_in given.is_new (pending seen.connection given.id past) (file_in_place (place_given seen given past) past)
-
-abbrev pub remade : Seen → List Seen → Option Remade
-remade seen past = remade_by seen (create_given seen.note) past
-
--- the life that begins where a CREATE opens a file at a place, if one does
-abbrev pub life_at : Place → Bool → ℕ → Option ℕ → List Named
-life_at place true number before = named_at place number ∷ []
-life_at place false number None = named_at place number ∷ []
-life_at place false number (Some file) = []
-
-abbrev pub life_by : Option Place → Bool → ℕ → List Seen → List Named
-life_by None is_new number past = []
-life_by (Some place) is_new number past = life_at place is_new number (file_of place past)
-
-abbrev pub life_after : Seen → Option CreateGiven → List Seen → List Named
-life_after seen None past = []
-life_after seen (Some given) past = life_by (place_given seen given past) given.is_new seen.number past
-
--- the lives of files that began
-abbrev pub lives : List Seen → List Named
-lives [] = []
-lives (seen ∷ past) = life_after seen (create_given seen.note) past ++ lives past
-
 -- the place of a file
 abbrev pub place_of_life : ℕ → List Named → Option Place
 place_of_life file [] = None
 place_of_life file (one ∷ others) = if one.file == file then Some (place_of_named one) else place_of_life file others
 
--- ---- the table
+-- ---- the tables
 
 abbrev pub place_view : declared.Place → Place
 place_view place = record {
@@ -151,10 +185,27 @@ place_view place = record {
   creation_time = place.creation_time;
 }
 
+abbrev pub naming_view : NamingDeclared → Naming
+naming_view naming =
+    record { place = option_map place_view naming.place; identity = naming.identity; under = naming.under }
+
 abbrev pub file_in : Place → List Named → Option ℕ
 file_in place [] = None
 file_in place (one ∷ table) = if is_same_place (place_of_named one) place then Some one.file else file_in place table
 
-pub record KnowsFiles (past : List Seen) (files : Files) : Type 0 where
-  pub files_at : (place : Place) → file_in place files.named.items ≡ file_of place past
-  pub begun : files.begun.items ≡ lives past
+abbrev pub identified_in : Identity → List Identified → Option ℕ
+identified_in identity [] = None
+identified_in identity (one ∷ table) = if is_same_identity one.identity identity then Some one.file else identified_in identity table
+
+-- the file at the place that is known, and with the identity
+abbrev pub found_in : Option Place → List Named → Option ℕ
+found_in None table = None
+found_in (Some place) table = file_in place table
+
+abbrev pub found_as : Option Identity → List Identified → Option ℕ
+found_as None table = None
+found_as (Some identity) table = identified_in identity table
+
+abbrev pub found_by : Naming → Files → Option ℕ
+found_by naming files =
+    file_found (found_as naming.identity files.identified.items) (found_in naming.place files.named.items) naming.under

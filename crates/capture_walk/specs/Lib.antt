@@ -14,3 +14,4 @@ pub mod Frames
 pub mod Compounds
 pub mod Laws
 pub mod Worked
+pub mod Told

@@ -124,6 +124,7 @@ create_asked id closes asked contexts (TreeId tree) = note.CreateAsked (record {
   key = option_map lease_key contexts.lease;
   unnamed = contexts.reconnect || contexts.snapshot;
   closes = closes;
+  application = contexts.app_instance;
 })
 create_asked id closes asked contexts (AsyncId async) = note.Gap
 
@@ -150,8 +151,13 @@ request_note header request.Other ids closes = note.Asked header.message_id
 -- ---- what responses tell
 
 abbrev pub lease_found : LeaseContext → LeaseGiven
-lease_found lease =
-    record { key = lease.key; level = level_in lease.state; breaking = lease.breaking; epoch = lease.epoch }
+lease_found lease = record {
+  key = lease.key;
+  state = lease.state;
+  level = level_in lease.state;
+  breaking = lease.breaking;
+  epoch = lease.epoch;
+}
 
 -- Only leases on files count. A folder has FILE_ATTRIBUTE_DIRECTORY, and where a lease is granted OplockLevel is
 -- SMB2_OPLOCK_LEVEL_LEASE.
@@ -191,10 +197,12 @@ response_note header (response.Create given contexts) = note.CreateGiven (record
   file_id = given.file_id;
   is_new = is_new given;
   creation_time = given.creation_time;
+  on_disk = contexts.on_disk;
   lease = lease_given given contexts.lease;
 })
 response_note header (response.Break notification new_epoch) = note.Break (record {
   key = notification.key;
+  state = notification.new;
   level = level_in notification.new;
   acknowledged = notification.ack_required;
   epoch = new_epoch;

@@ -4,6 +4,7 @@ use Rattle.capture_judge.specs.Worked.{certain, doubtful}
 use Rattle.capture_judge.specs.declared.values.Level.{Level}
 use Rattle.capture_judge.specs.declared.values.Level.TheVariants.{Nothing, Something, Writes}
 use Rattle.capture_judge.specs.declared.values.Change.{Change}
+use Rattle.lease_state.specs.declared.state.LeaseState.{LeaseState}
 use Rattle.capture_walk.specs.Tables.{tables_on}
 use Rattle.capture_walk.specs.declared.event.NotJudged.TheVariants.{Missing}
 use Rattle.capture_walk.specs.declared.event.Lease.{Lease}
@@ -17,10 +18,17 @@ file = 7
 abbrev pub lease_of : ℕ → Lease
 lease_of client = record { client = client; key = record { 0 = replicate 16 client }; file = file }
 
+-- a state of that level
+abbrev pub state_at : Level → LeaseState
+state_at Nothing = record { 0 = 0 }
+state_at Something = record { 0 = 3 }
+state_at Writes = record { 0 = 7 }
+
 -- A response grants it, by a message's number and its position, to a request of a position.
 abbrev pub granted : ℕ → Level → ℕ → ℕ → ℕ → Event
 granted client level number asked position = event.Granted (record {
   lease = lease_of client;
+  state = state_at level;
   level = level;
   sent = record { connection = client; number = number; position = position };
   asked = asked;
@@ -41,6 +49,7 @@ used client opened id position =
 abbrev pub broken : Level → Bool → Event
 broken level acknowledged = event.Broken (record {
   lease = lease_of 1;
+  state = state_at level;
   level = level;
   sent = record { connection = 1; number = 6; position = 8 };
   acknowledged = acknowledged;

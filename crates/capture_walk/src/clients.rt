@@ -1,5 +1,5 @@
 ghost use Rattle.std.specs.Prelude.{◌≡◌, ◌∷◌, [], List, OnOk};
-ghost use Rattle.capture_walk.specs.Clients.{number_in, client_in, KnowsClients};
+ghost use Rattle.capture_walk.specs.Clients.{number_in, client_in, guid_in, KnowsClients};
 ghost use Rattle.capture_walk.specs.declared.note.Seen.{Seen};
 
 use crate::note::Seen;
@@ -51,6 +51,18 @@ impl Clients {
         for known in &self.known {
             if known.connection == connection {
                 return Some(known.client);
+            }
+        }
+        None
+    }
+
+    /// The ClientGuid of a client, by its number.
+    pub(crate) fn guid_of(&self, client: u64) -> Option<Guid>
+        ensures { result ≡ guid_in client self.now.known.items }
+    {
+        for known in &self.known {
+            if known.client == client {
+                return Some(known.guid);
             }
         }
         None

@@ -6,6 +6,7 @@ ghost use Rattle.capture_walk.specs.Notes.{answered, create_given};
 ghost use Rattle.capture_walk.specs.declared.note.Seen.{Seen};
 
 use crate::note::Seen;
+use capture_wire::Guid;
 use lease_state::{Bytes, LeaseKey, Memory};
 use std::alloc::Global;
 
@@ -21,6 +22,7 @@ pub(crate) struct Create {
     pub(crate) key: Option<LeaseKey>,
     pub(crate) unnamed: bool,
     pub(crate) closes: bool,
+    pub(crate) application: Option<Guid>,
     // A file was made under its name since.
     pub(crate) remade: bool,
 }
@@ -158,6 +160,7 @@ impl Creates {
             key: asked.key,
             unnamed: asked.unnamed,
             closes: asked.closes,
+            application: asked.application,
             remade: false,
         };
         self.pending.insert(0, create)?;

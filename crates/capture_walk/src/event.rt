@@ -3,7 +3,7 @@ ghost use Rattle.capture_walk.specs.Chains.{is_same};
 ghost use Rattle.capture_walk.specs.Events.{said_by_grant, said_by_break};
 
 use capture_judge::Level;
-use lease_state::LeaseKey;
+use lease_state::{LeaseKey, LeaseState};
 
 /// A lease: that of a client under a key on a file. The numbers of clients and files are those of the
 /// messages with which the capture begins to show them.
@@ -40,6 +40,7 @@ pub struct Sent {
 #[derive(Clone, Copy, Debug, PartialEq, Eq)]
 pub struct Grant {
     pub lease: Lease,
+    pub state: LeaseState,
     pub level: Level,
     pub sent: Sent,
     /// The last position at which the client sent the request, before which the server can't have taken it.
@@ -53,6 +54,7 @@ pub struct Grant {
 pub struct Break {
     pub lease: Lease,
     /// What it leaves.
+    pub state: LeaseState,
     pub level: Level,
     pub sent: Sent,
     /// Whether it has to be acknowledged.

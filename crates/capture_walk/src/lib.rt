@@ -37,6 +37,7 @@ mod renames;
 mod sides;
 mod tables;
 mod telling;
+mod told;
 mod trees;
 mod walk;
 
@@ -55,4 +56,5 @@ pub use note::{
 };
 pub use reading::{Ids, Named, closed_behind, ids_of, level_of, note_of};
 pub use tables::tables_on;
+pub use told::{LeaseTold, leases_told};
 pub use walk::Walk;

@@ -2,8 +2,8 @@ ghost use Rattle.std.specs.Prelude.{◌≡◌};
 ghost use Rattle.capture_walk.specs.Notes as notes;
 
 use capture_judge::Level;
-use capture_wire::{Guid, Smb2FileId};
-use lease_state::LeaseKey;
+use capture_wire::{FileOnDisk, Guid, Smb2FileId};
+use lease_state::{LeaseKey, LeaseState};
 
 /// A TREE_CONNECT request.
 #[derive(Clone, Copy, Debug, PartialEq, Eq)]
@@ -37,12 +37,15 @@ pub struct CreateAsked<'a> {
     pub unnamed: bool,
     /// A CLOSE in the same compound closes what it opens.
     pub closes: bool,
+    /// AppInstanceId of the application that asks.
+    pub application: Option<Guid>,
 }
 
 /// A lease in a CREATE response.
 #[derive(Clone, Copy, Debug, PartialEq, Eq)]
 pub struct LeaseGiven {
     pub key: LeaseKey,
+    pub state: LeaseState,
     pub level: Level,
     /// A break of it is in progress, so that nothing is granted.
     pub breaking: bool,
@@ -61,6 +64,8 @@ pub struct CreateGiven {
     pub is_new: bool,
     /// When the file was made.
     pub creation_time: u64,
+    /// Which file it is on the server's disk.
+    pub on_disk: Option<FileOnDisk>,
     /// A lease of either version on a file; those on folders don't count.
     pub lease: Option<LeaseGiven>,
 }
@@ -95,6 +100,7 @@ pub struct KeyLevel {
 pub struct BreakNote {
     pub key: LeaseKey,
     /// What it leaves.
+    pub state: LeaseState,
     pub level: Level,
     /// Whether it has to be acknowledged.
     pub acknowledged: bool,

@@ -1,20 +1,21 @@
 ghost use Rattle.std.specs.Prelude.{◌++◌, ◌≡◌, Some, OnOk, IfOk, List};
 ghost use Rattle.std.specs.Option.{option_map};
-ghost use Rattle.capture_walk.specs.Clients.{KnowsClients};
+ghost use Rattle.capture_walk.specs.Clients.{KnowsClients, client_of};
 ghost use Rattle.capture_walk.specs.Trees.{KnowsTrees, path_of};
-ghost use Rattle.capture_walk.specs.Creates.{KnowsCreates};
-ghost use Rattle.capture_walk.specs.Files.{KnowsFiles, place_given, place_by, place_view, file_in, file_by, file_of, life_by};
-ghost use Rattle.capture_walk.specs.Files as places;
-ghost use Rattle.capture_walk.specs.Opens.{open_at, lease_by, ends, is_named, made_by};
+ghost use Rattle.capture_walk.specs.Creates.{KnowsCreates, pending};
+ghost use Rattle.capture_walk.specs.Files.{place_by, place_view, naming_view, identity_at, naming_by};
+ghost use Rattle.capture_walk.specs.Opens.{is_under, key_granted, file_under, lease_by, open_at, is_named, ends_by};
+ghost use Rattle.capture_walk.specs.Opens.{is_application, is_other_client, is_taken_over, ends, made_by, known, opens};
+ghost use Rattle.capture_walk.specs.Opens.{KnowsFiles, AreKnownAfter};
 ghost use Rattle.capture_walk.specs.declared.note.Seen.{Seen};
 
 use crate::clients::Clients;
 use crate::creates::{Create, Creates};
 use crate::event::Lease;
-use crate::files::{Files, Place};
+use crate::files::{Files, Identity, Naming, Place};
 use crate::note::{CreateGiven, LeaseGiven, Note, Seen};
 use crate::trees::Trees;
-use capture_wire::Smb2FileId;
+use capture_wire::{FileOnDisk, Guid, Smb2FileId};
 use lease_state::{LeaseKey, Memory};
 
 /// An open of a file.
@@ -23,6 +24,7 @@ pub(crate) struct Open {
     pub(crate) server: u64,
     // Where the response to its CREATE was sent.
     pub(crate) connection: u64,
+    pub(crate) client: Option<u64>,
     pub(crate) session: u64,
     pub(crate) tree: u32,
     pub(crate) file_id: Smb2FileId,
@@ -30,7 +32,38 @@ pub(crate) struct Open {
     pub(crate) number: u64,
     // Where the capture has its request.
     pub(crate) asked: u64,
+    pub(crate) file: u64,
+    // AppInstanceId
+    pub(crate) application: Option<Guid>,
     pub(crate) lease: Option<Lease>,
+}
+
+/// Whether a lease is that of a client under a key.
+pub(crate) fn is_under(lease: Option<Lease>, client: u64, key: LeaseKey) -> bool
+    ensures { result ≡ is_under client key.0 lease }
+{
+    match lease {
+        Some(lease) => lease.client == client && lease.key.0.as_slice() == key.0.as_slice(),
+        None => false,
+    }
+}
+
+fn is_application(one: Option<Guid>, other: Option<Guid>) -> bool
+    ensures { result ≡ is_application one other }
+{
+    match (one, other) {
+        (Some(one), Some(other)) => one.0.as_slice() == other.0.as_slice(),
+        _ => false,
+    }
+}
+
+fn is_other_client(one: Option<u64>, other: Option<u64>) -> bool
+    ensures { result ≡ is_other_client one other }
+{
+    match (one, other) {
+        (Some(one), Some(other)) => one != other,
+        _ => false,
+    }
 }
 
 impl Open {
@@ -44,9 +77,8 @@ impl Open {
                 && self.file_id.volatile == file_id.volatile)
     }
 
-    /// Whether a message ends it.
-    pub(crate) fn ends(&self, seen: &Seen<'_>) -> bool
-        ensures { result ≡ ends seen.now self.now }
+    fn is_ended(&self, seen: &Seen<'_>) -> bool
+        ensures { result ≡ ends_by seen.now.note seen.now self.now }
     {
         match seen.note {
             Note::Close(name) => self.is_named(seen.server, name.session, name.file_id),
@@ -61,39 +93,85 @@ impl Open {
             _ => false,
         }
     }
+
+    // Whether an application takes it over.
+    fn is_taken_over(&self, made: Option<Open>) -> bool
+        ensures { result ≡ is_taken_over made self.now }
+    {
+        let Some(made) = made else {
+            return false;
+        };
+        self.file == made.file
+            && is_application(self.application, made.application)
+            && is_other_client(self.client, made.client)
+    }
+
+    /// Whether a message ends it, by the open that it makes.
+    pub(crate) fn ends(&self, seen: &Seen<'_>, made: Option<Open>) -> bool
+        ensures { result ≡ ends made seen.now self.now }
+    {
+        self.is_ended(seen) || self.is_taken_over(made)
+    }
 }
 
-fn lease_of(
-    given: Option<LeaseGiven>,
-    asked: Option<LeaseKey>,
+// The key under which a CREATE response grants a lease, where it is the one that was asked for.
+fn key_granted(given: Option<LeaseGiven>, asked: Option<LeaseKey>) -> Option<LeaseKey>
+    ensures { result ≡ key_granted given asked }
+{
+    let (given, asked) = (given?, asked?);
+    if given.key.0.as_slice() == asked.0.as_slice() {
+        Some(given.key)
+    } else {
+        None
+    }
+}
+
+// The file of the lease that a client holds at a server under a key.
+fn file_under(
+    opens: &[Open],
+    server: u64,
+    client: Option<u64>,
+    key: Option<LeaseKey>,
+) -> Option<u64>
+    ensures { result ≡ file_under server client key opens.now }
+{
+    let (client, key) = (client?, key?);
+    for one in opens {
+        if one.server == server && is_under(one.lease, client, key) {
+            return Some(one.file);
+        }
+    }
+    None
+}
+
+fn lease_of(key: Option<LeaseKey>, client: Option<u64>, file: u64) -> Option<Lease>
+    ensures { result ≡ lease_by key client file }
+{
+    let (key, client) = (key?, client?);
+    Some(Lease { client, key, file })
+}
+
+fn open_of(
+    seen: &Seen<'_>,
+    given: CreateGiven,
+    create: &Create,
     client: Option<u64>,
     file: u64,
-) -> Option<Lease>
-    ensures { result ≡ lease_by given asked client file }
-{
-    let (given, asked, client) = (given?, asked?, client?);
-    if given.key.0.as_slice() != asked.0.as_slice() {
-        return None;
-    }
-    Some(Lease {
-        client,
-        key: given.key,
-        file,
-    })
-}
-
-fn open_of(seen: &Seen<'_>, given: CreateGiven, create: &Create, lease: Option<Lease>) -> Open
-    ensures { result ≡ open_at seen.now given create.now lease }
+) -> Open
+    ensures { result ≡ open_at seen.now given create.now client file }
 {
     Open {
         server: seen.server,
         connection: seen.connection,
+        client,
         session: given.session,
         tree: create.tree,
         file_id: given.file_id,
         number: seen.number,
         asked: create.position,
-        lease,
+        file,
+        application: create.application,
+        lease: lease_of(key_granted(given.lease, create.key), client, file),
     }
 }
 
@@ -120,35 +198,79 @@ pub(crate) fn place_of<'a>(
     })
 }
 
+fn identity_of(seen: &Seen<'_>, given: CreateGiven) -> Option<Identity>
+    ensures { result ≡ option_map (identity_at seen.now.server given.creation_time) given.on_disk }
+{
+    let one = given.on_disk?;
+    Some(Identity {
+        server: seen.server,
+        file: one.file,
+        volume: one.volume,
+        creation_time: given.creation_time,
+    })
+}
+
+// What the file of a CREATE response is known by.
+fn naming_of<'a>(
+    seen: &Seen<'_>,
+    given: CreateGiven,
+    create: &'a Create,
+    trees: &'a Trees,
+    under: Option<u64>,
+) -> Option<Naming<'a>>
+    ensures { (past : List Seen) → KnowsTrees past trees.now → option_map naming_view result
+        ≡ naming_by seen.now.server (Some create.now) given
+        (path_of seen.now.server given.session create.now.tree past) under }
+{
+    if create.unnamed
+        || trees
+            .path_of(seen.server, given.session, create.tree)
+            .is_none()
+    {
+        return None;
+    }
+    Some(Naming {
+        place: place_of(seen, given, create, trees),
+        identity: identity_of(seen, given),
+        under,
+    })
+}
+
 /// What a CREATE response opens. The file that it opens becomes known.
 pub(crate) fn open_given(
     clients: &Clients,
     trees: &Trees,
     creates: &Creates,
+    held: &[Open],
     files: &mut Files,
     seen: &Seen<'_>,
     given: CreateGiven,
 ) -> Result<Option<Open>, Memory>
     ensures made { IfOk result (λ one. (past : List Seen) → KnowsClients past clients.now → KnowsTrees past trees.now
-        → KnowsCreates past creates.now → KnowsFiles past files.old → one ≡ made_by seen.now (Some given) past) }
-    ensures files { OnOk result ((past : List Seen) → KnowsTrees past trees.now
-        → KnowsCreates past creates.now → KnowsFiles past files.old → (place : places.Place)
-        → file_in place files.new.named.items
-        ≡ file_by place (place_given seen.now given past) given.is_new seen.now.number (file_of place past)) }
-    ensures lives { OnOk result ((past : List Seen) → KnowsTrees past trees.now
-        → KnowsCreates past creates.now → KnowsFiles past files.old → files.new.begun.items
-        ≡ life_by (place_given seen.now given past) given.is_new seen.now.number past ++ files.old.begun.items) }
+        → KnowsCreates past creates.now → held.now ≡ opens past → KnowsFiles past files.old
+        → one ≡ made_by seen.now (Some given) past (known past)) }
+    ensures files { OnOk result ((past : List Seen) → KnowsClients past clients.now → KnowsTrees past trees.now
+        → KnowsCreates past creates.now → held.now ≡ opens past → KnowsFiles past files.old
+        → AreKnownAfter seen.now given past files.new) }
 {
     let Some(create) = creates.pending(seen.connection, given.id) else {
         return Ok(None);
     };
-    let Some(place) = place_of(seen, given, create, trees) else {
+    let client = clients.of(seen.connection);
+    let under = file_under(
+        held,
+        seen.server,
+        client,
+        key_granted(given.lease, create.key),
+    );
+    let Some(naming) = naming_of(seen, given, create, trees, under) else {
         return Ok(None);
     };
-    let file = files.open(place, given.is_new, seen.number)?;
+    let Some(file) = files.open(naming, given.is_new, seen.number)? else {
+        return Ok(None);
+    };
     if create.closes {
         return Ok(None);
     }
-    let lease = lease_of(given.lease, create.key, clients.of(seen.connection), file);
-    Ok(Some(open_of(seen, given, create, lease)))
+    Ok(Some(open_of(seen, given, create, client, file)))
 }

@@ -233,6 +233,7 @@ fn create_asked<'a>(
             key: asked_key(contexts.lease),
             unnamed: contexts.reconnect || contexts.snapshot,
             closes,
+            application: contexts.app_instance,
         }),
         TreeOrAsync::AsyncId(_) => Note::Gap,
     }
@@ -274,6 +275,7 @@ fn lease_found(lease: Option<LeaseContext>) -> Option<LeaseGiven>
     let lease = lease?;
     Some(LeaseGiven {
         key: lease.key,
+        state: lease.state,
         level: level_of(lease.state),
         breaking: lease.breaking,
         epoch: lease.epoch,
@@ -345,10 +347,12 @@ fn response_note<'a>(header: &Header, response: &Response) -> Note<'a>
             file_id: given.file_id,
             is_new: given.action == 0 || given.action == 2,
             creation_time: given.creation_time,
+            on_disk: contexts.on_disk,
             lease: lease_given(given, contexts.lease),
         }),
         Response::Break(notification, new_epoch) => Note::Break(BreakNote {
             key: notification.key,
+            state: notification.new,
             level: level_of(notification.new),
             acknowledged: notification.ack_required,
             epoch: *new_epoch,

@@ -7,7 +7,8 @@ ghost use Rattle.capture_walk.specs.Events.{last_said, without_epoch, is_newer, 
 ghost use Rattle.capture_walk.specs.Events.{has_order, follows_on, misnumbered, ordered, new_epoch, grant_of, break_of};
 ghost use Rattle.capture_walk.specs.Events.{dispute, is_stray_of, strayed, stray};
 ghost use Rattle.capture_walk.specs.Events.{granted_lease, granted_of, lost_under, broken_of, broken, lost_of, lost_at, missing};
-ghost use Rattle.capture_walk.specs.Events.{closing, last_asked, gone, acknowledged, closed, asked_of, asked_by, answer_by, heard, told_remade, told_by, is_under, is_of, all_taken};
+ghost use Rattle.capture_walk.specs.Events.{closing, last_asked, gone, acknowledged, closed, asked_of, asked_by, answer_by, heard, told_remade, told_by, is_of, all_taken};
+ghost use Rattle.capture_walk.specs.Opens.{is_under};
 ghost use Rattle.capture_walk.specs.declared.event.Event.TheVariants as event;
 
 use crate::event::{
@@ -15,18 +16,9 @@ use crate::event::{
     Misnumbered, NotJudged, Proof, Remade, Said, Sent, Stray,
 };
 use crate::note::{BreakNote, KeyLevel, LeaseGiven, Note, OpenName, Seen};
-use crate::opens::Open;
+use crate::opens::{Open, is_under};
 use capture_judge::Level;
 use lease_state::{LeaseKey, Memory};
-
-fn is_under(lease: Option<Lease>, client: u64, key: LeaseKey) -> bool
-    ensures { result ≡ is_under client key.0 lease }
-{
-    match lease {
-        Some(lease) => lease.client == client && lease.key.0.as_slice() == key.0.as_slice(),
-        None => false,
-    }
-}
 
 // The last open of a client with a lease under a key.
 fn open_under(opens: &[Open], client: Option<u64>, key: LeaseKey) -> Option<Open>
@@ -167,12 +159,12 @@ fn push_gone(events: &mut Vec<Event>, asked: Option<Asked>) -> Result<(), Memory
 }
 
 // Whether an open under the lease is left after a message.
-fn is_kept(seen: &Seen<'_>, opens: &[Open], lease: Lease) -> bool
-    ensures { result ≡ list_any (keeps seen.now lease) opens.now }
+fn is_kept(seen: &Seen<'_>, made: Option<Open>, opens: &[Open], lease: Lease) -> bool
+    ensures { result ≡ list_any (keeps made seen.now lease) opens.now }
 {
     opens
         .iter()
-        .any(|one| !one.ends(seen) && is_of(lease, one.lease))
+        .any(|one| !one.ends(seen, made) && is_of(lease, one.lease))
 }
 
 // The MessageId of a CLOSE.
@@ -189,19 +181,20 @@ fn closing(seen: &Seen<'_>) -> Option<u64>
 fn push_ended_lease(
     events: &mut Vec<Event>,
     seen: &Seen<'_>,
+    made: Option<Open>,
     opens: &[Open],
     one: &Open,
 ) -> Result<(), Memory>
-    ensures { OnOk result (events.new.items ≡ events.old.items ++ ended_by seen.now opens.now one.now) }
+    ensures { OnOk result (events.new.items ≡ events.old.items ++ ended_by made seen.now opens.now one.now) }
 {
-    if !one.ends(seen) {
+    if !one.ends(seen, made) {
         return Ok(());
     }
     let Some(lease) = one.lease else {
         return Ok(());
     };
     events.push(Event::Closed(Closed { opened: one.number }))?;
-    if !is_kept(seen, opens, lease) {
+    if !is_kept(seen, made, opens, lease) {
         events.push(Event::Ended(End {
             lease,
             first: seen.earliest,
@@ -213,16 +206,17 @@ fn push_ended_lease(
     Ok(())
 }
 
-/// The leases that end with the opens that a message ends.
+/// The leases that end with the opens that a message ends, by the open that it makes.
 pub(crate) fn push_ended(
     events: &mut Vec<Event>,
     seen: &Seen<'_>,
+    made: Option<Open>,
     opens: &[Open],
 ) -> Result<(), Memory>
-    ensures { OnOk result (events.new.items ≡ events.old.items ++ ended seen.now opens.now) }
+    ensures { OnOk result (events.new.items ≡ events.old.items ++ ended made seen.now opens.now) }
 {
     for one in opens {
-        push_ended_lease(events, seen, opens, one)?;
+        push_ended_lease(events, seen, made, opens, one)?;
     }
     Ok(())
 }
@@ -439,6 +433,7 @@ fn grant_of(seen: &Seen<'_>, given: LeaseGiven, lease: Lease, asked: u64) -> Gra
 {
     Grant {
         lease,
+        state: given.state,
         level: given.level,
         sent: sent_at(seen),
         asked,
@@ -527,6 +522,7 @@ fn break_of(seen: &Seen<'_>, one: BreakNote, lease: Lease, said: Option<Said>) -
 {
     Break {
         lease,
+        state: one.state,
         level: one.level,
         sent: sent_at(seen),
         acknowledged: one.acknowledged,

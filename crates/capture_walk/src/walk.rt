@@ -1,7 +1,8 @@
 ghost use Rattle.std.specs.Prelude.{◌≡◌, ◌∷◌, [], List, Some, None, OnOk, IfOk, filter, option_to_list, ◌++◌};
-ghost use Rattle.capture_walk.specs.Files.{KnowsFiles, lives, place_of_life, place_view, remade};
+ghost use Rattle.capture_walk.specs.Clients.{guid_of};
+ghost use Rattle.capture_walk.specs.Files.{place_of_life, place_view};
 ghost use Rattle.std.specs.Option.{option_map};
-ghost use Rattle.capture_walk.specs.Opens.{is_left, made};
+ghost use Rattle.capture_walk.specs.Opens.{KnowsFiles, held_after, is_left, lives, made, remade};
 ghost use Rattle.capture_walk.specs.Events.{Knows, HasSameButFiles, HasOpens, events};
 ghost use Rattle.capture_walk.specs.declared.note.Seen.{Seen};
 
@@ -15,6 +16,7 @@ use crate::renames::Renames;
 use crate::sides::Sides;
 use crate::telling::{push_ended, push_heard, push_remade, push_told};
 use crate::trees::Trees;
+use capture_wire::Guid;
 use lease_state::Memory;
 use std::alloc::Global;
 
@@ -72,32 +74,32 @@ impl Walk {
         ensures same { OnOk result (HasSameButFiles self.old self.new) }
     {
         let Some(given) = seen.note.create_given() else {
-            let is_change = self.renames.is_change(seen);
-            self.files.note_change(seen, is_change);
+            self.files.note_change(self.renames.is_change(seen));
             return Ok(None);
         };
         open_given(
             &self.clients,
             &self.trees,
             &self.creates,
+            &self.opens,
             &mut self.files,
             seen,
             given,
         )
     }
 
-    fn drop_opens(&mut self, seen: &Seen<'_>)
-        ensures { HasOpens (filter (is_left seen.now) self.old.opens.items) self.old self.new }
+    fn drop_opens(&mut self, seen: &Seen<'_>, made: Option<Open>)
+        ensures { HasOpens (filter (is_left made seen.now) self.old.opens.items) self.old self.new }
     {
-        self.opens.retain(|one| !one.ends(seen));
+        self.opens.retain(|one| !one.ends(seen, made));
     }
 
     // The opens after the message.
     fn change_opens(&mut self, seen: &Seen<'_>, made: Option<Open>) -> Result<(), Memory>
         ensures { OnOk result
-            (HasOpens (option_to_list made ++ filter (is_left seen.now) self.old.opens.items) self.old self.new) }
+            (HasOpens (held_after made seen.now self.old.opens.items) self.old self.new) }
     {
-        self.drop_opens(seen);
+        self.drop_opens(seen, made);
         if let Some(one) = made {
             self.opens.insert(0, one)?;
         }
@@ -116,7 +118,7 @@ impl Walk {
         let made = self.name_files(seen)?;
         let client = self.clients.of(seen.connection);
         push_heard(&mut self.events, seen, client, &self.opens)?;
-        push_ended(&mut self.events, seen, &self.opens)?;
+        push_ended(&mut self.events, seen, made, &self.opens)?;
         push_remade(&mut self.events, remade)?;
         let since = self.sides.missing_since(seen.connection);
         push_told(&mut self.events, seen, client, made, since, &self.opens)?;
@@ -133,6 +135,13 @@ impl Walk {
         ensures { (past : List Seen) → Knows past self.now → option_map place_view result ≡ place_of_life file (lives past) }
     {
         self.files.place_of(file)
+    }
+
+    /// The ClientGuid of a client, by its number.
+    pub fn guid_of(&self, client: u64) -> Option<Guid>
+        ensures { (past : List Seen) → Knows past self.now → result ≡ guid_of client past }
+    {
+        self.clients.guid_of(client)
     }
 
     /// What the messages so far show of leases, in the order of the capture.

@@ -4,17 +4,22 @@ ghost use Rattle.std.specs.Result.{result_err};
 ghost use Rattle.lease_wire.specs.Contexts.{items_left, view_of};
 ghost use Rattle.lease_wire.specs.Message.{items_in, area_fault};
 ghost use Rattle.capture_wire.specs.Creates.{is_of_kind, first_of_kind, fault_in, epoch_of, contexts_fault};
-ghost use Rattle.capture_wire.specs.Creates.{IsLeaseContext, IsLeaseOf, AreContexts};
+ghost use Rattle.capture_wire.specs.Creates.{IsLeaseContext, IsLeaseOf, AreContexts, on_disk_of, app_instance_of};
 ghost use Rattle.capture_wire.specs.Contexts.{is_break_in_progress};
-ghost use Rattle.capture_wire.specs.declared.contexts.Kind.TheVariants.{Lease};
+ghost use Rattle.capture_wire.specs.declared.contexts.Kind.TheVariants.{Lease, OnDisk, AppInstance};
 
-use crate::field::{has_flag, sixteen_at};
+use crate::field::{Guid, has_flag, sixteen_at};
 use byteorder::{ByteOrder, LittleEndian};
 use lease_state::{LeaseKey, LeaseState};
 use lease_wire::{Context, Contexts, Direction, WireFault, contexts_of_create};
 
 // SMB2_LEASE_FLAG_BREAK_IN_PROGRESS
 const BREAK_IN_PROGRESS: u32 = 2;
+
+// The name of SMB2_CREATE_APP_INSTANCE_ID
+const APP_INSTANCE: [u8; 16] = [
+    0x45, 0xbc, 0xa6, 0x6a, 0xef, 0xa7, 0xf7, 0x4a, 0x90, 0x08, 0xfa, 0x46, 0x2e, 0x14, 0x4d, 0x74,
+];
 
 /// What an `RqLs` context of either version says (MS-SMB2 2.2.13.2.8, 2.2.13.2.10, 2.2.14.2.10, 2.2.14.2.11).
 #[derive(Clone, Copy, Debug, PartialEq, Eq)]
@@ -28,6 +33,15 @@ pub struct LeaseContext {
     pub epoch: Option<u16>,
 }
 
+/// Which file it is on the server's disk, whatever its name (MS-SMB2 2.2.14.2.9).
+#[derive(Clone, Copy, Debug, PartialEq, Eq)]
+pub struct FileOnDisk {
+    /// DiskFileId.
+    pub file: u64,
+    /// VolumeId.
+    pub volume: u64,
+}
+
 /// What the create contexts of a CREATE request ask for, or those of a response grant. Of several of a kind the first one counts.
 #[derive(Clone, Copy, Debug, PartialEq, Eq)]
 pub struct CreateContexts {
@@ -39,6 +53,10 @@ pub struct CreateContexts {
     pub reconnect: bool,
     /// `TWrp`: the file is opened as it was at an earlier time.
     pub snapshot: bool,
+    /// `QFid` of a response, with data of 32 bytes: the file that is opened.
+    pub on_disk: Option<FileOnDisk>,
+    /// SMB2_CREATE_APP_INSTANCE_ID (MS-SMB2 2.2.13.2.13), with data of 20 bytes: the application that asks, wherever it runs.
+    pub app_instance: Option<Guid>,
 }
 
 // The contexts that are looked for.
@@ -48,6 +66,8 @@ pub(crate) enum Kind {
     Durable,
     Reconnect,
     Snapshot,
+    OnDisk,
+    AppInstance,
 }
 
 fn is_of_kind(kind: Kind, context: &Context<'_>) -> bool
@@ -59,6 +79,8 @@ fn is_of_kind(kind: Kind, context: &Context<'_>) -> bool
         Kind::Durable => name == b"DHnQ".as_slice() || name == b"DH2Q".as_slice(),
         Kind::Reconnect => name == b"DHnC".as_slice() || name == b"DH2C".as_slice(),
         Kind::Snapshot => name == b"TWrp".as_slice(),
+        Kind::OnDisk => name == b"QFid".as_slice() && size == 32,
+        Kind::AppInstance => name == APP_INSTANCE.as_slice() && size == 20,
     }
 }
 
@@ -131,6 +153,24 @@ fn lease_of(direction: Direction, contexts: Contexts<'_>) -> Option<LeaseContext
     }
 }
 
+fn on_disk_of(contexts: Contexts<'_>) -> Option<FileOnDisk>
+    ensures { result ≡ option_map on_disk_of (first_of_kind OnDisk (items_left contexts.entry)) }
+{
+    let context = find_context(Kind::OnDisk, contexts)?;
+    Some(FileOnDisk {
+        file: LittleEndian::read_u64(context.body),
+        volume: LittleEndian::read_u64(&context.body[8..]),
+    })
+}
+
+fn app_instance_of(contexts: Contexts<'_>) -> Option<Guid>
+    ensures { option_map (λ guid. guid.0) result
+        ≡ option_map app_instance_of (first_of_kind AppInstance (items_left contexts.entry)) }
+{
+    let context = find_context(Kind::AppInstance, contexts)?;
+    Some(Guid(sixteen_at(context.body, 4)))
+}
+
 /// What the create contexts of a whole CREATE request or response say (MS-SMB2 2.2.13.2, 2.2.14.2), from its header on.
 ///
 /// # Errors
@@ -152,10 +192,14 @@ pub fn read_create_contexts(
         contexts_of_create(direction, message)?,
     ).is_some();
     let snapshot = find_context(Kind::Snapshot, contexts_of_create(direction, message)?).is_some();
+    let on_disk = on_disk_of(contexts_of_create(direction, message)?);
+    let app_instance = app_instance_of(contexts_of_create(direction, message)?);
     Ok(CreateContexts {
         lease,
         durable,
         reconnect,
         snapshot,
+        on_disk,
+        app_instance,
     })
 }

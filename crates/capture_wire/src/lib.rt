@@ -41,7 +41,7 @@ pub use connecting::{
     read_negotiate_request, read_negotiate_response, read_session_setup_request,
     read_tree_connect_request,
 };
-pub use contexts::{CreateContexts, LeaseContext, read_create_contexts};
+pub use contexts::{CreateContexts, FileOnDisk, LeaseContext, read_create_contexts};
 pub use create::{CreateRequest, CreateResponse, read_create_request, read_create_response};
 pub use durable::{
     DurableReconnectV2, DurableRequestV2, DurableResponseV2, read_durable_reconnect_v2,

@@ -2,7 +2,7 @@
 use Rattle.std.specs.Prelude.{◌≡◌, ℕ, true, ◌++◌, List, [], ◌∷◌, codes}
 use Rattle.std.specs.List.{flat_map}
 use Rattle.std.specs.String.{string_bytes}
-use Rattle.capture_texts.specs.records.Records.{IsRecord, are_lines, facts_in}
+use Rattle.capture_texts.specs.records.Records.{IsRecord, are_lines, facts_in, notes_told, tells}
 use Rattle.capture_texts.specs.declared.records.record.RecordLine.{RecordLine}
 use Rattle.capture_texts.specs.declared.records.record.RecordLine.TheVariants as line
 use Rattle.capture_texts.specs.Reports.{verdict_of}
@@ -40,9 +40,10 @@ pub record TellsRecord (side : Side) (bytes text : List ℕ) (status : ℕ) : Ty
   pub lines : List RecordLine
   pub notes : List RecordLine
   pub reports : IsReportOn side bytes report
-  pub facts : IsRecord report.files.items (facts_in lines)
+  pub facts : IsRecord report.files.items (facts_in lines) (tells lines)
   pub told : text ≡ lines_printed lines ++ (codes "# " ++ capture_line (verdict_of report.files.items)) ++ lines_printed notes
   pub remarks : facts_in notes ≡ []
+  pub found : tells notes ≡ notes_told report
   pub one-line : are_lines lines ≡ true
   pub also-one-line : are_lines notes ≡ true
   pub status-is : status ≡ capture_status (verdict_of report.files.items)

@@ -2,15 +2,16 @@ ghost use Rattle.std.specs.Prelude.{◌≡◌, ◌⊎◌, ◌++◌, ◌∷◌, [
 ghost use Rattle.std.specs.List.{flat_map};
 ghost use Rattle.std.specs.String.{string_bytes};
 ghost use Rattle.capture_texts.specs.Captures.{IsReadFrom, capture_in};
-ghost use Rattle.capture_texts.specs.Texts.{epoch_line, file_line, findings_text, lost_line};
+ghost use Rattle.capture_texts.specs.Texts.{epoch_line, file_lines, findings_text, lease_line, lost_line};
 ghost use Rattle.leasecheck.specs.Capturing.{FindsIn, TellsRecord, capture_line, capture_status, lines_printed};
 ghost use Rattle.leasecheck.specs.Refusals.{line_refusal};
 
 use crate::failure::Failure;
 use crate::refusal::Refusal;
 use capture_texts::{
-    Capture, CaptureVerdict, ClientFinding, EpochFinding, FileFinding, RecordLine, Report, Side,
-    notes_of, push_counts, push_epoch, push_file, push_lost, read_capture, record_of,
+    Capture, CaptureVerdict, ClientFinding, EpochFinding, FileFinding, LeaseFinding, RecordLine,
+    Report, Side, notes_of, push_counts, push_epoch, push_file, push_lease, push_lost,
+    read_capture, record_of,
 };
 use lease_texts::{TextFault, push_fact};
 use std::alloc::{AllocError, Global};
@@ -38,12 +39,23 @@ fn push_verdict(text: &mut String, verdict: CaptureVerdict) -> Result<(), AllocE
     }
 }
 
+fn push_leases(alloc: Global, text: &mut String, leases: &[LeaseFinding]) -> Result<(), AllocError>
+    ensures { OnOk result (string_bytes text.new ≡ string_bytes text.old ++ flat_map lease_line leases.now) }
+{
+    for lease in leases {
+        push_lease(alloc, text, lease)?;
+        text.push_str("\n")?;
+    }
+    Ok(())
+}
+
 fn push_files(alloc: Global, text: &mut String, files: &[FileFinding]) -> Result<(), AllocError>
-    ensures { OnOk result (string_bytes text.new ≡ string_bytes text.old ++ flat_map file_line files.now) }
+    ensures { OnOk result (string_bytes text.new ≡ string_bytes text.old ++ flat_map file_lines files.now) }
 {
     for file in files {
         push_file(alloc, text, file)?;
         text.push_str("\n")?;
+        push_leases(alloc, text, &file.leases)?;
     }
     Ok(())
 }

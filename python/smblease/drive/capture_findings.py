@@ -6,6 +6,8 @@ from collections.abc import Iterator, Sequence
 from dataclasses import dataclass, replace
 from enum import Enum
 
+from smblease.drive.capture_leases import LeaseFinding, lease_in
+
 _UNDECIDED = ("no client of it is", "what is shown can't have happened", "it can have happened in too many ways")
 # A name may have any character, and the words behind it have no colon with a space.
 _GRANTED = "unsafe by the server's grants"
@@ -36,11 +38,13 @@ _SAID = {it.word: it for it in (Verdict.SAFE, Verdict.UNSAFE, Verdict.NOTHING_JU
 
 @dataclass(frozen=True)
 class FileFinding:
-    """A file on which leases were granted, what is decided of it, and its clients, one for each lease."""
+    """A file on which leases were granted, what is decided of it, its clients, one for each lease, and where it is unsafe what
+    had been said of each lease."""
 
     place: str
     judged: str
     clients: tuple[str, ...]
+    leases: tuple[LeaseFinding, ...] = ()
 
     @property
     def _words(self) -> re.Match[str]:
@@ -135,7 +139,9 @@ class Findings:
         return Verdict.SAFE if is_judged else Verdict.IN_PART
 
     def lines(self) -> Iterator[str]:
-        yield from map(str, self.files)
+        for file in self.files:
+            yield str(file)
+            yield from map(str, file.leases)
         yield from map(str, self.clients)
         yield from self.others
         yield str(self.counts)
@@ -143,11 +149,18 @@ class Findings:
 
 def findings_in(lines: Sequence[str]) -> Findings:
     """What the lines say, of which the first is the verdict."""
-    found = [it for line in lines[1:] if (it := _FILE.fullmatch(line))]
     clients = tuple(_client(it) for line in lines[1:] if (it := _CLIENT.fullmatch(line)))
-    files = tuple(_file(it).without([one.address for one in clients]) for it in found)
-    others = tuple(line for line in lines[1:-1] if not _FILE.fullmatch(line) and not _CLIENT.fullmatch(line))
-    return Findings(_SAID[lines[0]], files, clients, others, _counts(lines[-1]))
+    files: list[FileFinding] = []
+    others: list[str] = []
+    for line in lines[1:-1]:
+        lease = lease_in(line) if files and not others else None
+        if file := _FILE.fullmatch(line):
+            files.append(_file(file).without([one.address for one in clients]))
+        elif lease:
+            files[-1] = replace(files[-1], leases=(*files[-1].leases, lease))
+        elif not _CLIENT.fullmatch(line):
+            others.append(line)
+    return Findings(_SAID[lines[0]], tuple(files), clients, tuple(others), _counts(lines[-1]))
 
 
 def _client(found: re.Match[str]) -> ClientFinding:

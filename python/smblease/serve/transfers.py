@@ -69,7 +69,7 @@ class Transfers(Handlers):
         if file.opens.with_locks and is_kept_from(opened, offset, length, is_write=False):
             raise StatusError(Status.FILE_LOCK_CONFLICT)
         data = yield to_read(client, opened, lambda: read_bytes(file.file, start, length))
-        if length and len(data) < max(1, least):
+        if len(data) < (max(1, least) if length else least):
             raise StatusError(Status.END_OF_FILE)
         opened.position = offset + len(data)
         return Answer(SUCCESS, READ_DONE.pack(17, HEADER + 16, 0, len(data), 0, 0), data or b"\0")

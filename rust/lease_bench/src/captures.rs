@@ -8,7 +8,7 @@ use leasecheck::proved::capture_walk::{
     files_in,
 };
 use leasecheck::proved::capture_wire::{Guid, Smb2FileId};
-use smblease::proved::lease_state::{LeaseKey, Memory};
+use smblease::proved::lease_state::{LeaseKey, LeaseState, Memory};
 use std::alloc::Global;
 
 // How many requests use an open before others are opened.
@@ -80,6 +80,7 @@ fn ask(capture: &mut Capture, turn: u32, client: u32, file: u32) -> Result<(), M
         key: Some(key_of(client, file)),
         unnamed: false,
         closes: false,
+        application: None,
     };
     capture.take(client, Note::CreateAsked(asked))
 }
@@ -87,7 +88,7 @@ fn ask(capture: &mut Capture, turn: u32, client: u32, file: u32) -> Result<(), M
 // The lease of the client that has the file is broken.
 fn give_up(capture: &mut Capture, client: u32, file: u32) -> Result<(), Memory> {
     let key = key_of(client, file);
-    let breaks = BreakNote { key, level: Level::Nothing, acknowledged: true, epoch: 0 };
+    let breaks = BreakNote { key, state: LeaseState::NONE, level: Level::Nothing, acknowledged: true, epoch: 0 };
     capture.take(client, Note::Break(breaks))?;
     let id = capture.count;
     let keeps = KeyLevel { id, key, level: Level::Nothing };
@@ -97,13 +98,15 @@ fn give_up(capture: &mut Capture, client: u32, file: u32) -> Result<(), Memory> 
 
 fn grant(capture: &mut Capture, turn: u32, client: u32, file: u32) -> Result<(), Memory> {
     let name = name_of_open(0, client, turn);
-    let lease = LeaseGiven { key: key_of(client, file), level: Level::Writes, breaking: false, epoch: None };
+    let state = LeaseState::READ_CACHING | LeaseState::WRITE_CACHING;
+    let lease = LeaseGiven { key: key_of(client, file), state, level: Level::Writes, breaking: false, epoch: None };
     let given = CreateGiven {
         id: u64::from(turn) + 2,
         session: name.session,
         file_id: name.file_id,
         is_new: false,
         creation_time: 0,
+        on_disk: None,
         lease: Some(lease),
     };
     capture.take(client, Note::CreateGiven(given))

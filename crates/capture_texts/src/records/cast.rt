@@ -2,6 +2,7 @@ ghost use Rattle.std.specs.Prelude.{◌≡◌, List, IfOk, OnOk, map, length};
 ghost use Rattle.std.specs.List.{list_any};
 ghost use Rattle.capture_texts.specs.Reports as reports;
 ghost use Rattle.capture_texts.specs.Reports.{number_named};
+ghost use Rattle.capture_texts.specs.records.Remarks.{wanted};
 ghost use Rattle.capture_texts.specs.records.Casts.{is_number, with_client, with_clients, is_wanted, has_unsafe, Takes, IsCast};
 
 use crate::finding::{ClientName, FileFinding, Judged};
@@ -42,7 +43,9 @@ fn is_wanted(are_unsafe: bool, file: &FileFinding) -> bool
 }
 
 // How many files the record is of, if there is room.
-pub(crate) fn count_wanted(files: &[FileFinding]) -> usize {
+pub(crate) fn count_wanted(files: &[FileFinding]) -> usize
+    ensures { result ≡ wanted files.now }
+{
     let are_unsafe = has_unsafe(files);
     files
         .iter()

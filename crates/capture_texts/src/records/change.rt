@@ -39,7 +39,7 @@ fn push_changes(
 ) -> Result<(), Memory>
     requires { length clients.now ≤ MOST }
     ensures { OnOk result (map shown changes.new.items
-        ≡ map shown changes.old.items ++ changes_in clients.now file beliefs.now) }
+        ≡ map shown changes.old.items ++ changes_in clients.now file finding 0 beliefs.now) }
 {
     for (belief, one) in beliefs.iter().enumerate() {
         if let Some(place) = place_of(clients, one.client) {
@@ -66,7 +66,7 @@ pub(crate) fn changes_of(
     requires clients { length clients.now ≤ MOST }
     requires files { length findings.now ≤ MOST }
     ensures { IfOk result (λ changes. (chosen : List FileFinding) → AllZip (IsAt files.now) findings.now chosen
-        → map shown changes.items ≡ changes_of clients.now chosen) }
+        → map shown changes.items ≡ changes_of clients.now findings.now chosen) }
 {
     let mut changes = Vec::new(alloc);
     for (index, finding) in findings.iter().enumerate() {

@@ -1,20 +1,25 @@
-ghost use Rattle.std.specs.Prelude.{◌≡◌, ◌++◌, ◌≤◌, [], ◌∷◌, true, IfOk, OnOk, length};
-ghost use Rattle.std.specs.List.{list_any};
+ghost use Rattle.std.specs.Prelude.{◌≡◌, ◌++◌, ◌≤◌, [], ◌∷◌, true, IfOk, OnOk, length, slice_get};
+ghost use Rattle.std.specs.List.{flat_map, list_any};
+ghost use Rattle.std.specs.Option.{option_map};
+ghost use Rattle.std.specs.String.{string_bytes};
 ghost use Rattle.lease_state.specs.State.{state_of};
 ghost use Rattle.capture_texts.specs.records.Records.{are_lines, is_feed, believed, facts_in, starts, joins, beliefs, IsRecord};
-ghost use Rattle.capture_texts.specs.records.Records.{AreOrdered};
+ghost use Rattle.capture_texts.specs.records.Records.{AreOrdered, Told, tells, remarked, starts_told, joins_told, left_told, beliefs_told};
+ghost use Rattle.capture_texts.specs.records.Remarks.{belief_of, change_words, client_words, file_words, left_words, message_words};
+ghost use Rattle.capture_texts.specs.records.Remarks.{name_in, named_in, place_words, when_words};
 ghost use Rattle.capture_texts.specs.records.Casts.{IsCast};
 ghost use Rattle.lease_facts.specs.Facts.{fact_of};
 
-use crate::finding::{ClientName, FileFinding, Report};
+use crate::finding::{Belief, ClientName, FileFinding, FilePlace, Report};
 use crate::line::Moment;
+use crate::names::MessageName;
 use crate::records::cast::{Cast, MOST, cast_of, count_wanted};
 use crate::records::change::{Change, changes_of};
-use crate::texts::{push_client, push_moment, push_place};
+use crate::texts::{command_words, part_words, push_client, push_moment, push_place};
 use capture_judge::Level;
 use lease_facts::Fact;
 use lease_state::{Bytes, ClientNo, FileNo, LeaseState, Memory};
-use std::alloc::Global;
+use std::alloc::{AllocError, Global};
 
 /// A line of the record of a capture.
 #[derive(Debug, Drop)]
@@ -45,6 +50,7 @@ fn has_feed(text: &[u8]) -> bool
 pub(crate) fn push_remark(lines: &mut Vec<RecordLine>, remark: String) -> Result<(), Memory>
     ensures facts { OnOk result (facts_in lines.new.items ≡ facts_in lines.old.items) }
     ensures lines { OnOk result (are_lines lines.new.items ≡ are_lines lines.old.items) }
+    ensures told { OnOk result (tells lines.new.items ≡ tells lines.old.items ++ remarked (string_bytes remark)) }
 {
     if !has_feed(remark.as_bytes()) {
         lines.push(RecordLine::Remark(remark))?;
@@ -55,61 +61,124 @@ pub(crate) fn push_remark(lines: &mut Vec<RecordLine>, remark: String) -> Result
 fn push_fact(lines: &mut Vec<RecordLine>, fact: Fact) -> Result<(), Memory>
     ensures facts { OnOk result (facts_in lines.new.items ≡ facts_in lines.old.items ++ fact_of fact ∷ []) }
     ensures lines { OnOk result (are_lines lines.new.items ≡ are_lines lines.old.items) }
+    ensures told { OnOk result (tells lines.new.items ≡ tells lines.old.items ++ Told.Fact (fact_of fact) ∷ []) }
 {
     lines.push(RecordLine::Fact(fact))?;
     Ok(())
 }
 
-fn file_remark(alloc: Global, number: u8, file: Option<&FileFinding>) -> Result<String, Memory> {
+fn push_found(
+    alloc: Global,
+    remark: &mut String,
+    place: &Option<FilePlace>,
+) -> Result<(), AllocError>
+    ensures { OnOk result (string_bytes remark.new ≡ string_bytes remark.old ++ place_words place.now) }
+{
+    if let Some(place) = place {
+        remark.push_str(" is ")?;
+        push_place(alloc, remark, place)?;
+    }
+    Ok(())
+}
+
+#[tactic(auto, unfolding(crate::specs::records::Remarks::file_words))]
+fn file_remark(
+    alloc: Global,
+    number: u8,
+    files: &[FileFinding],
+    place: usize,
+) -> Result<String, Memory>
+    ensures { IfOk result (λ remark. string_bytes remark ≡ file_words number (slice_get files.now place)) }
+{
     let mut remark = String::new(alloc);
     write!(&mut remark, "file {number}")?;
-    if let Some(place) = file.and_then(|file| file.place.as_ref()) {
-        remark.push_str(" is ")?;
-        push_place(alloc, &mut remark, place)?;
+    if let Some(file) = files.get(place) {
+        push_found(alloc, &mut remark, &file.place)?;
     }
     Ok(remark)
 }
 
-fn client_remark(alloc: Global, number: u8, name: Option<&ClientName>) -> Result<String, Memory> {
+// The name of a client among those of a file, by its number.
+fn named_in(names: &[ClientName], client: u64) -> Option<&ClientName>
+    ensures { option_map (λ name. name.now) result ≡ named_in client names.now }
+{
+    for name in names {
+        if name.number == client {
+            return Some(name);
+        }
+    }
+    None
+}
+
+// The name of a client.
+fn name_in(files: &[FileFinding], client: u64) -> Option<&ClientName>
+    ensures { option_map (λ name. name.now) result ≡ name_in client files.now }
+{
+    for file in files {
+        if let Some(name) = named_in(&file.clients, client) {
+            return Some(name);
+        }
+    }
+    None
+}
+
+#[tactic(auto, unfolding(crate::specs::records::Remarks::client_words))]
+fn client_remark(
+    alloc: Global,
+    number: u8,
+    files: &[FileFinding],
+    client: u64,
+) -> Result<String, Memory>
+    ensures { IfOk result (λ remark. string_bytes remark ≡ client_words number (name_in client files.now)) }
+{
     let mut remark = String::new(alloc);
     write!(&mut remark, "client {number}")?;
-    if let Some(name) = name {
+    if let Some(name) = name_in(files, client) {
         remark.push_str(" is ")?;
         push_client(alloc, &mut remark, name)?;
     }
     Ok(remark)
 }
 
-// A moment with the names of its messages.
-fn push_named_moment(alloc: Global, remark: &mut String, moment: &Moment) -> Result<(), Memory> {
-    push_moment(alloc, remark, moment)?;
-    for name in moment.messages.as_slice() {
-        write!(remark, ", {name}")?;
+// The names of messages, each after a comma.
+fn push_messages(remark: &mut String, names: &[MessageName]) -> Result<(), AllocError>
+    ensures { OnOk result (string_bytes remark.new ≡ string_bytes remark.old ++ flat_map message_words names.now) }
+{
+    for name in names {
+        remark.push_str(", ")?;
+        remark.push_str(command_words(name.command))?;
+        remark.push_str(part_words(name.part))?;
     }
     Ok(())
 }
 
-fn change_remark(alloc: Global, files: &[FileFinding], change: Change) -> Result<String, Memory> {
+fn push_when(alloc: Global, remark: &mut String, moment: &Option<Moment>) -> Result<(), AllocError>
+    ensures { OnOk result (string_bytes remark.new ≡ string_bytes remark.old ++ when_words moment.now) }
+{
+    match moment {
+        Some(moment) => {
+            push_moment(alloc, remark, moment)?;
+            push_messages(remark, moment.messages.as_slice())
+        }
+        None => remark.push_str("before all packets"),
+    }
+}
+
+fn belief_of(files: &[FileFinding], change: Change) -> Option<&Belief>
+    ensures { option_map (λ belief. belief.now) result ≡ belief_of files.now change }
+{
+    files.get(change.finding)?.beliefs.get(change.belief)
+}
+
+fn change_remark(alloc: Global, files: &[FileFinding], change: Change) -> Result<String, Memory>
+    ensures { IfOk result (λ remark. string_bytes remark ≡ change_words (belief_of files.now change)) }
+{
     let mut remark = String::new(alloc);
-    let beliefs = files
-        .get(change.finding)
-        .map(|file| file.beliefs.as_slice());
-    let belief = beliefs.and_then(|beliefs| beliefs.get(change.belief));
-    match belief.and_then(|belief| belief.moment.as_ref()) {
-        Some(moment) => push_named_moment(alloc, &mut remark, moment)?,
+    match belief_of(files, change) {
+        Some(belief) => push_when(alloc, &mut remark, &belief.moment)?,
         None => remark.push_str("before all packets")?,
     }
     Ok(remark)
-}
-
-// The name of a client, by its number.
-fn name_of<'a>(files: &'a [FileFinding], client: u64) -> Option<&'a ClientName> {
-    for file in files {
-        if let Some(name) = file.clients.iter().find(|name| name.number == client) {
-            return Some(name);
-        }
-    }
-    None
 }
 
 fn push_starts(
@@ -121,10 +190,11 @@ fn push_starts(
     requires { length findings.now ≤ MOST }
     ensures facts { OnOk result (facts_in lines.new.items ≡ facts_in lines.old.items ++ starts (length findings.now)) }
     ensures lines { OnOk result (are_lines lines.new.items ≡ are_lines lines.old.items) }
+    ensures told { OnOk result (tells lines.new.items ≡ tells lines.old.items ++ starts_told files.now 0 findings.now) }
 {
     for (index, finding) in findings.iter().enumerate() {
         let number = index as u8 + 1;
-        push_remark(lines, file_remark(alloc, number, files.get(*finding))?)?;
+        push_remark(lines, file_remark(alloc, number, files, *finding)?)?;
         push_fact(
             lines,
             Fact::Start(FileNo(number), Bytes::new(Vec::new(alloc))),
@@ -142,13 +212,11 @@ fn push_joins(
     requires { length clients.now ≤ MOST }
     ensures facts { OnOk result (facts_in lines.new.items ≡ facts_in lines.old.items ++ joins (length clients.now)) }
     ensures lines { OnOk result (are_lines lines.new.items ≡ are_lines lines.old.items) }
+    ensures told { OnOk result (tells lines.new.items ≡ tells lines.old.items ++ joins_told files.now 0 clients.now) }
 {
     for (index, client) in clients.iter().enumerate() {
         let number = index as u8 + 1;
-        push_remark(
-            lines,
-            client_remark(alloc, number, name_of(files, *client))?,
-        )?;
+        push_remark(lines, client_remark(alloc, number, files, *client)?)?;
         push_fact(lines, Fact::Joined(ClientNo(number)))?;
     }
     Ok(())
@@ -162,6 +230,7 @@ fn push_beliefs(
 ) -> Result<(), Memory>
     ensures facts { OnOk result (facts_in lines.new.items ≡ facts_in lines.old.items ++ beliefs changes.now) }
     ensures lines { OnOk result (are_lines lines.new.items ≡ are_lines lines.old.items) }
+    ensures told { OnOk result (tells lines.new.items ≡ tells lines.old.items ++ beliefs_told files.now changes.now) }
 {
     for change in changes {
         push_remark(lines, change_remark(alloc, files, *change)?)?;
@@ -173,22 +242,26 @@ fn push_beliefs(
     Ok(())
 }
 
+#[tactic(auto, unfolding(crate::specs::records::Remarks::left_words))]
+fn left_remark(alloc: Global, count: usize) -> Result<String, Memory>
+    ensures { IfOk result (λ remark. string_bytes remark ≡ left_words count) }
+{
+    let mut remark = String::new(alloc);
+    write!(
+        &mut remark,
+        "{count} files are left out, for which there are no numbers"
+    )?;
+    Ok(remark)
+}
+
 // Says how many files there was no room for.
-fn push_left_out(
-    alloc: Global,
-    lines: &mut Vec<RecordLine>,
-    files: &[FileFinding],
-    cast: &Cast,
-) -> Result<(), Memory>
+fn push_left_out(alloc: Global, lines: &mut Vec<RecordLine>, count: usize) -> Result<(), Memory>
     ensures facts { OnOk result (facts_in lines.new.items ≡ facts_in lines.old.items) }
     ensures lines { OnOk result (are_lines lines.new.items ≡ are_lines lines.old.items) }
+    ensures told { OnOk result (tells lines.new.items ≡ tells lines.old.items ++ left_told count) }
 {
-    let left_out = count_wanted(files).saturating_sub(cast.findings.len());
-    if left_out > 0 {
-        let remark = format!(in alloc;
-            "{left_out} files are left out, for which there are no numbers"
-        )?;
-        push_remark(lines, remark)?;
+    if count > 0 {
+        push_remark(lines, left_remark(alloc, count)?)?;
     }
     Ok(())
 }
@@ -204,7 +277,7 @@ fn sort(changes: &mut Vec<Change>) -> Result<(), Memory>
 // The lines of the record of these files.
 fn lines_of(alloc: Global, files: &[FileFinding], cast: &Cast) -> Result<Vec<RecordLine>, Memory>
     requires { IsCast files.now cast.now }
-    ensures record { IfOk result (λ lines. IsRecord files.now (facts_in lines.items)) }
+    ensures record { IfOk result (λ lines. IsRecord files.now (facts_in lines.items) (tells lines.items)) }
     ensures lines { IfOk result (λ lines. are_lines lines.items ≡ true) }
 {
     let mut changes = changes_of(
@@ -217,7 +290,8 @@ fn lines_of(alloc: Global, files: &[FileFinding], cast: &Cast) -> Result<Vec<Rec
     let mut lines = Vec::new(alloc);
     push_starts(alloc, &mut lines, files, cast.findings.as_slice())?;
     push_joins(alloc, &mut lines, files, cast.clients.as_slice())?;
-    push_left_out(alloc, &mut lines, files, cast)?;
+    let left_out = count_wanted(files).saturating_sub(cast.findings.len());
+    push_left_out(alloc, &mut lines, left_out)?;
     push_beliefs(alloc, &mut lines, files, changes.as_slice())?;
     Ok(lines)
 }
@@ -230,7 +304,7 @@ fn lines_of(alloc: Global, files: &[FileFinding], cast: &Cast) -> Result<Vec<Rec
 ///
 /// `Memory` where there is none left.
 pub fn record_of(alloc: Global, report: &Report) -> Result<Vec<RecordLine>, Memory>
-    ensures record { IfOk result (λ lines. IsRecord report.now.files.items (facts_in lines.items)) }
+    ensures record { IfOk result (λ lines. IsRecord report.now.files.items (facts_in lines.items) (tells lines.items)) }
     ensures lines { IfOk result (λ lines. are_lines lines.items ≡ true) }
 {
     let files = report.files.as_slice();

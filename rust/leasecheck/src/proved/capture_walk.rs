@@ -36,6 +36,7 @@ mod renames;
 mod sides;
 mod tables;
 mod telling;
+mod told;
 mod trees;
 mod walk;
 
@@ -50,4 +51,5 @@ pub use frame::Frame;
 pub use note::{BreakNote, CreateAsked, CreateGiven, KeyLevel, LeaseGiven, Note, OpenName, Seen, TreeAsked, TreeGiven, TreeName};
 pub use reading::{Ids, Named, closed_behind, ids_of, level_of, note_of};
 pub use tables::tables_on;
+pub use told::{LeaseTold, leases_told};
 pub use walk::Walk;

@@ -5,4 +5,4 @@ use Rattle.capture_walk.proofs.telling.push_ended.Given as goal
 
 abbrev pub invariant-loop-one : goal.invariant-loop-one
 invariant-loop-one l =
-    l.events.items ≡ l.fn.events.items ++ flat_map (ended_by l.seen l.opens) (take l.one-index l.opens)
+    l.events.items ≡ l.fn.events.items ++ flat_map (ended_by l.made l.seen l.opens) (take l.one-index l.opens)

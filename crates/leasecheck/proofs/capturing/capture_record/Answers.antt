@@ -40,6 +40,7 @@ returns-clause-told c =
           ∙ ap (λ (ls : List RecordLine). lines_printed c.in_ok-lines.lines.items
           ++ (codes "# " ++ capture_line (verdict_of c.in_ok-report.report.files.items)) ++ lines_printed ls) c.deref-2.ensures.value));
       remarks = c.in_ok-notes.ensures.facts;
+      found = c.in_ok-notes.ensures.told;
       one-line = c.in_ok-lines.ensures.lines;
       also-one-line = c.in_ok-notes.ensures.lines;
       status-is = ap capture_status verdict;

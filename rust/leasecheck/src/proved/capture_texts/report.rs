@@ -5,10 +5,13 @@ use std::prelude::Vec;
 use crate::proved::capture_judge::{Chain, Level, Placing, Step, judge_placing, levels_after};
 use crate::proved::capture_texts::capture::{Capture, Kept};
 use crate::proved::capture_texts::finding::{
-    Belief, ClientFinding, ClientName, Counts, EpochFinding, FileFinding, FilePlace, Judged, Report,
+    Belief, BreakFinding, Clash, ClientFinding, ClientName, Counts, EpochFinding, FileFinding, FilePlace, Judged, LeaseFinding,
+    Report,
 };
 use crate::proved::capture_texts::line::Moment;
-use crate::proved::capture_walk::{Event, Loss, Misnumbered, Place, chains_on, files_in, tables_on};
+use crate::proved::capture_walk::{
+    Acknowledged, Break, Event, LeaseTold, Loss, Misnumbered, Place, chains_on, files_in, leases_told, tables_on,
+};
 use smblease::proved::lease_state::{Bytes, Memory};
 use std::alloc::Global;
 
@@ -30,6 +33,14 @@ fn moment_since(position: u64, kept: &[Kept]) -> Result<Option<Moment>, Memory> 
         return Ok(None);
     }
     moment_at(position, kept)
+}
+
+// Where a client acknowledged a break, if it did.
+fn moment_given(given: Option<Acknowledged>, kept: &[Kept]) -> Result<Option<Moment>, Memory> {
+    match given {
+        Some(given) => moment_at(given.last, kept),
+        None => Ok(None),
+    }
 }
 
 // What a step's client caches after it.
@@ -61,7 +72,8 @@ fn judge(alloc: Global, chains: &[Chain], kept: &[Kept]) -> Result<(Judged, Vec<
         Placing::Clean(steps) => Ok((Judged::Safe, beliefs_by(alloc, chains, steps.as_slice(), kept)?)),
         Placing::Unsafe(charge) => {
             let beliefs = beliefs_by(alloc, chains, charge.steps.as_slice(), kept)?;
-            Ok((Judged::Unsafe(moment_at(charge.position, kept)?), beliefs))
+            let clash = Clash { position: charge.position, moment: moment_at(charge.position, kept)? };
+            Ok((Judged::Unsafe(clash), beliefs))
         }
         Placing::TooMany => Ok((Judged::TooMany, Vec::new(alloc))),
     }
@@ -78,7 +90,7 @@ fn joined(believed: Judged, held: Judged) -> Judged {
         return believed;
     }
     match held {
-        Judged::Unsafe(moment) => Judged::Granted(moment),
+        Judged::Unsafe(clash) => Judged::Granted(clash),
         other => less_sure(believed, other),
     }
 }
@@ -171,6 +183,48 @@ impl Capture {
         Ok(clients)
     }
 
+    fn break_finding(&self, broken: Option<Break>, given: Option<Acknowledged>) -> Result<Option<BreakFinding>, Memory> {
+        let Some(one) = broken else {
+            return Ok(None);
+        };
+        Ok(Some(BreakFinding {
+            state: one.state,
+            moment: moment_at(one.sent.position, &self.kept)?,
+            wants_acknowledgment: one.acknowledged,
+            acknowledged: moment_given(given, &self.kept)?,
+        }))
+    }
+
+    fn lease_finding(&self, alloc: Global, told: &LeaseTold) -> Result<LeaseFinding, Memory> {
+        let grant = told.grant;
+        Ok(LeaseFinding {
+            client: self.client_name(alloc, grant.lease.client)?,
+            guid: self.walking.walk.guid_of(grant.lease.client),
+            key: grant.lease.key,
+            state: grant.state,
+            granted: moment_at(grant.sent.position, &self.kept)?,
+            connection: copy_of(alloc, self.connections.client(grant.sent.connection))?,
+            broken: self.break_finding(told.broken, told.acknowledged)?,
+        })
+    }
+
+    // What was said of the leases on a file up to a position.
+    fn leases_until(&self, alloc: Global, file: u64, position: u64) -> Result<Vec<LeaseFinding>, Memory> {
+        let mut findings = Vec::new(alloc);
+        for told in &leases_told(alloc, file, position, self.walking.walk.events())? {
+            findings.push(self.lease_finding(alloc, told)?)?;
+        }
+        Ok(findings)
+    }
+
+    // The same where something clashes.
+    fn lease_findings(&self, alloc: Global, file: u64, until: Option<u64>) -> Result<Vec<LeaseFinding>, Memory> {
+        match until {
+            Some(position) => self.leases_until(alloc, file, position),
+            None => Ok(Vec::new(alloc)),
+        }
+    }
+
     // What is found of a file.
     fn file_finding(&self, alloc: Global, file: u64) -> Result<FileFinding, Memory> {
         let chains = chains_on(alloc, file, self.walking.walk.events())?;
@@ -180,7 +234,8 @@ impl Capture {
             None => None,
         };
         let (judged, beliefs) = judge_both(alloc, &chains, &tables, &self.kept)?;
-        Ok(FileFinding { file, place, judged, clients: self.clients_of(alloc, &chains)?, beliefs })
+        let leases = self.lease_findings(alloc, file, judged.until())?;
+        Ok(FileFinding { file, place, judged, clients: self.clients_of(alloc, &chains)?, beliefs, leases })
     }
 
     fn file_findings(&self, alloc: Global) -> Result<Vec<FileFinding>, Memory> {

@@ -4,15 +4,17 @@
 use std::prelude::String;
 
 use crate::proved::capture_texts::finding::{
-    CaptureVerdict, ClientFinding, ClientName, Counts, EpochFinding, FileFinding, FilePlace, Judged,
+    BreakFinding, CaptureVerdict, ClientFinding, ClientName, Counts, EpochFinding, FileFinding, FilePlace, Judged, LeaseFinding,
 };
 use crate::proved::capture_texts::line::Moment;
 use crate::proved::capture_texts::names::{MessageName, MessagePart};
 use crate::proved::capture_walk::NotJudged;
-use crate::proved::capture_wire::Command;
-use crate::proved::lease_texts::push_all_escaped;
+use crate::proved::capture_wire::{Command, Guid};
+use crate::proved::lease_texts::{push_all_escaped, state_letters};
+use smblease::proved::lease_state::{Bytes, LeaseKey};
 use std::alloc::{AllocError, Global};
 use std::fmt;
+use std::ports::uuid::Uuid;
 
 fn is_from_to(first: u32, behind: u32, code: u32) -> bool {
     first <= code && code < behind
@@ -85,7 +87,7 @@ pub(crate) fn push_place(alloc: Global, text: &mut String, place: &FilePlace) ->
 }
 
 pub(crate) fn push_client(alloc: Global, text: &mut String, name: &ClientName) -> Result<(), AllocError> {
-    if name.address.is_empty() { text.push_str("unknown") } else { push_all_escaped(alloc, text, name.address.as_slice()) }
+    push_address(alloc, text, &name.address)
 }
 
 pub(crate) fn push_moment(alloc: Global, text: &mut String, moment: &Moment) -> Result<(), AllocError> {
@@ -107,8 +109,8 @@ fn push_judged(alloc: Global, text: &mut String, judged: &Judged) -> Result<(), 
     match judged {
         Judged::NoClient => text.push_str("not judged, no client of it is"),
         Judged::Safe => text.push_str("safe"),
-        Judged::Unsafe(moment) => push_with_moment(alloc, text, "unsafe", moment),
-        Judged::Granted(moment) => push_with_moment(alloc, text, "unsafe by the server's grants", moment),
+        Judged::Unsafe(clash) => push_with_moment(alloc, text, "unsafe", &clash.moment),
+        Judged::Granted(clash) => push_with_moment(alloc, text, "unsafe by the server's grants", &clash.moment),
         Judged::Contradictory => text.push_str("not judged, what is shown can't have happened"),
         Judged::TooMany => text.push_str("not judged, it can have happened in too many ways"),
     }
@@ -142,6 +144,85 @@ pub fn push_file(alloc: Global, text: &mut String, file: &FileFinding) -> Result
     text.push_str(": ")?;
     push_judged(alloc, text, &file.judged)?;
     push_more(alloc, text, file.clients.as_slice())
+}
+
+fn push_sixteen(text: &mut String, bytes: [u8; 16]) -> Result<(), AllocError> {
+    let mut buffer = [0; 36];
+    text.push_str(Uuid::from_bytes(bytes).hyphenated().encode_lower(&mut buffer))
+}
+
+fn push_guid(text: &mut String, guid: Option<Guid>) -> Result<(), AllocError> {
+    match guid {
+        Some(guid) => push_sixteen(text, guid.0),
+        None => text.push_str("unknown"),
+    }
+}
+
+fn push_address(alloc: Global, text: &mut String, address: &Bytes) -> Result<(), AllocError> {
+    if address.is_empty() { text.push_str("unknown") } else { push_all_escaped(alloc, text, address.as_slice()) }
+}
+
+fn push_by(alloc: Global, text: &mut String, moment: &Option<Moment>) -> Result<(), AllocError> {
+    if let Some(moment) = moment {
+        text.push_str(" by ")?;
+        push_moment(alloc, text, moment)?;
+    }
+    Ok(())
+}
+
+fn push_given(alloc: Global, text: &mut String, is_wanted: bool, moment: &Option<Moment>) -> Result<(), AllocError> {
+    match moment {
+        Some(moment) => {
+            text.push_str(", acknowledged by ")?;
+            push_moment(alloc, text, moment)?;
+        }
+        None if is_wanted => text.push_str(", not acknowledged")?,
+        None => {}
+    }
+    Ok(())
+}
+
+fn push_broken(alloc: Global, text: &mut String, broken: &Option<BreakFinding>) -> Result<(), AllocError> {
+    let Some(one) = broken else {
+        return text.push_str(", not broken since");
+    };
+    text.push_str(", broken to ")?;
+    text.push_str(state_letters(one.state))?;
+    push_by(alloc, text, &one.moment)?;
+    push_given(alloc, text, one.wants_acknowledgment, &one.acknowledged)
+}
+
+fn push_owner(alloc: Global, text: &mut String, client: &ClientName) -> Result<(), AllocError> {
+    text.push_str("    lease of ")?;
+    push_client(alloc, text, client)?;
+    Ok(())
+}
+
+fn push_names(text: &mut String, guid: Option<Guid>, key: LeaseKey) -> Result<(), AllocError> {
+    text.push_str(", ClientGuid ")?;
+    push_guid(text, guid)?;
+    text.push_str(", key ")?;
+    push_sixteen(text, key.0)
+}
+
+fn push_granted(alloc: Global, text: &mut String, finding: &LeaseFinding) -> Result<(), AllocError> {
+    text.push_str(": ")?;
+    text.push_str(state_letters(finding.state))?;
+    push_by(alloc, text, &finding.granted)?;
+    text.push_str(" to ")?;
+    push_address(alloc, text, &finding.connection)
+}
+
+/// The same of a lease on a file: whose it is, what was granted by which packet to which address, and what broke it since.
+///
+/// # Errors
+///
+/// `AllocError` where there is no memory for it.
+pub fn push_lease(alloc: Global, text: &mut String, finding: &LeaseFinding) -> Result<(), AllocError> {
+    push_owner(alloc, text, &finding.client)?;
+    push_names(text, finding.guid, finding.key)?;
+    push_granted(alloc, text, finding)?;
+    push_broken(alloc, text, &finding.broken)
 }
 
 fn reason_text(reason: NotJudged) -> &'static str {
@@ -211,7 +292,7 @@ pub fn push_counts(text: &mut String, counts: Counts) -> Result<(), AllocError> 
 }
 
 // The name of a command, as MS-SMB2 2.2.1 has it.
-fn command_word(command: Command) -> &'static str {
+pub(crate) fn command_words(command: Command) -> &'static str {
     match command {
         Command::Negotiate => "NEGOTIATE",
         Command::SessionSetup => "SESSION_SETUP",
@@ -236,14 +317,18 @@ fn command_word(command: Command) -> &'static str {
     }
 }
 
+pub(crate) fn part_words(part: MessagePart) -> &'static str {
+    match part {
+        MessagePart::Request => " request",
+        MessagePart::Response => " response",
+        MessagePart::Notification => " notification",
+    }
+}
+
 impl fmt::Display for MessageName {
     fn fmt(&self, f: &mut fmt::Formatter<'_>) -> fmt::Result {
-        f.write_str(command_word(self.command))?;
-        f.write_str(match self.part {
-            MessagePart::Request => " request",
-            MessagePart::Response => " response",
-            MessagePart::Notification => " notification",
-        })
+        f.write_str(command_words(self.command))?;
+        f.write_str(part_words(self.part))
     }
 }
 

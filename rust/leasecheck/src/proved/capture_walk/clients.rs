@@ -48,6 +48,16 @@ impl Clients {
         None
     }
 
+    /// The ClientGuid of a client, by its number.
+    pub(crate) fn guid_of(&self, client: u64) -> Option<Guid> {
+        for known in &self.known {
+            if known.client == client {
+                return Some(known.guid);
+            }
+        }
+        None
+    }
+
     /// Takes note of the next message.
     pub(crate) fn note(&mut self, seen: &Seen<'_>) -> Result<(), Memory> {
         let Some(guid) = seen.note.negotiated() else {

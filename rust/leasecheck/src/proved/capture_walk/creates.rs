@@ -3,6 +3,7 @@
 use std::prelude::Vec;
 
 use crate::proved::capture_walk::note::Seen;
+use crate::proved::capture_wire::Guid;
 use smblease::proved::lease_state::{Bytes, LeaseKey, Memory};
 use std::alloc::Global;
 
@@ -18,6 +19,7 @@ pub(crate) struct Create {
     pub(crate) key: Option<LeaseKey>,
     pub(crate) unnamed: bool,
     pub(crate) closes: bool,
+    pub(crate) application: Option<Guid>,
     // A file was made under its name since.
     pub(crate) remade: bool,
 }
@@ -121,6 +123,7 @@ impl Creates {
             key: asked.key,
             unnamed: asked.unnamed,
             closes: asked.closes,
+            application: asked.application,
             remade: false,
         };
         self.pending.insert(0, create)?;

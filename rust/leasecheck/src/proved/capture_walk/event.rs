@@ -1,7 +1,7 @@
 // Made by tools/plain_rust from crates/capture_walk/src/event.rt. Changes belong there.
 
 use crate::proved::capture_judge::Level;
-use smblease::proved::lease_state::LeaseKey;
+use smblease::proved::lease_state::{LeaseKey, LeaseState};
 
 /// A lease: that of a client under a key on a file. The numbers of clients and files are those of the
 /// messages with which the capture begins to show them.
@@ -34,6 +34,7 @@ pub struct Sent {
 #[derive(Clone, Copy, Debug, PartialEq, Eq)]
 pub struct Grant {
     pub lease: Lease,
+    pub state: LeaseState,
     pub level: Level,
     pub sent: Sent,
     /// The last position at which the client sent the request, before which the server can't have taken it.
@@ -47,6 +48,7 @@ pub struct Grant {
 pub struct Break {
     pub lease: Lease,
     /// What it leaves.
+    pub state: LeaseState,
     pub level: Level,
     pub sent: Sent,
     /// Whether it has to be acknowledged.

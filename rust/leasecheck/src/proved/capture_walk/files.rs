@@ -28,11 +28,49 @@ pub(crate) struct Named {
     file: u64,
 }
 
-/// The files at places, with the numbers of the messages with which their lives began.
+/// A file on a disk of a server.
+#[derive(Clone, Copy, Debug)]
+pub(crate) struct Identity {
+    pub(crate) server: u64,
+    // DiskFileId and VolumeId
+    pub(crate) file: u64,
+    pub(crate) volume: u64,
+    // A server may give an id again once a file is gone.
+    pub(crate) creation_time: u64,
+}
+
+impl Identity {
+    fn is(self, other: Identity) -> bool {
+        self.server == other.server
+            && self.creation_time == other.creation_time
+            && (self.file == other.file && self.volume == other.volume)
+    }
+}
+
+// The file that has an identity.
+#[derive(Clone, Copy, Debug)]
+pub(crate) struct Identified {
+    identity: Identity,
+    file: u64,
+}
+
+/// What a CREATE response's file is known by.
+#[derive(Clone, Copy, Debug)]
+pub(crate) struct Naming<'a> {
+    /// Its place, where the name is sure to lead to it.
+    pub(crate) place: Option<Place<'a>>,
+    pub(crate) identity: Option<Identity>,
+    /// The file of the lease that its client holds under the key of the one that is granted.
+    pub(crate) under: Option<u64>,
+}
+
+/// The files that are known, with the numbers of the messages with which their lives began.
 #[derive(Debug)]
 pub(crate) struct Files {
-    // Those that are known by their names. The newest first, as in the other list.
+    // Those that are known by their names. The newest first, as in the other lists.
     named: Vec<Named>,
+    // Those of which it is known what they are on a disk.
+    identified: Vec<Identified>,
     // All.
     begun: Vec<Named>,
 }
@@ -66,7 +104,7 @@ fn share_of(path: &[u8]) -> &[u8] {
 impl Files {
     /// None. Allocates nothing.
     pub(crate) fn new(alloc: Global) -> Files {
-        Files { named: Vec::new(alloc), begun: Vec::new(alloc) }
+        Files { named: Vec::new(alloc), identified: Vec::new(alloc), begun: Vec::new(alloc) }
     }
 
     /// The file at a place.
@@ -83,26 +121,93 @@ impl Files {
         None
     }
 
+    fn find_identified(&self, identity: Identity) -> Option<u64> {
+        for one in &self.identified {
+            if one.identity.is(identity) {
+                return Some(one.file);
+            }
+        }
+        None
+    }
+
+    fn find_at(&self, place: Option<Place<'_>>) -> Option<u64> {
+        self.find(place?)
+    }
+
+    fn find_as(&self, identity: Option<Identity>) -> Option<u64> {
+        self.find_identified(identity?)
+    }
+
+    // The file that is known by this.
+    fn find_by(&self, naming: Naming<'_>) -> Option<u64> {
+        if let Some(file) = self.find_as(naming.identity) {
+            return Some(file);
+        }
+        match self.find_at(naming.place) {
+            Some(file) => Some(file),
+            None => naming.under,
+        }
+    }
+
     fn begin(&mut self, place: Place<'_>, file: u64) -> Result<(), Memory> {
         let named = named_at(*self.begun.allocator(), place, file)?;
         self.begun.insert(0, named)?;
         Ok(())
     }
 
-    fn insert(&mut self, place: Place<'_>, file: u64) -> Result<(), Memory> {
+    // From here on the place leads to the file.
+    fn place(&mut self, place: Place<'_>, file: u64) -> Result<(), Memory> {
+        if self.find(place) == Some(file) {
+            return Ok(());
+        }
         let named = named_at(*self.named.allocator(), place, file)?;
         self.named.insert(0, named)?;
         Ok(())
     }
 
-    /// The file that a CREATE opens at a place; its life begins with that message where it is new or wasn't known.
-    pub(crate) fn open(&mut self, place: Place<'_>, is_new: bool, number: u64) -> Result<u64, Memory> {
-        if !is_new && let Some(file) = self.find(place) {
-            return Ok(file);
+    // From here on the identity is the file's.
+    fn identify(&mut self, identity: Identity, file: u64) -> Result<(), Memory> {
+        if self.find_identified(identity) == Some(file) {
+            return Ok(());
         }
-        self.begin(place, number)?;
-        self.insert(place, number)?;
-        Ok(number)
+        self.identified.insert(0, Identified { identity, file })?;
+        Ok(())
+    }
+
+    // The life that begins with a message, if one does.
+    fn begin_life(&mut self, place: Option<Place<'_>>, is_new: bool, number: u64, found: Option<u64>) -> Result<(), Memory> {
+        match place {
+            Some(place) if is_new || found.is_none() => self.begin(place, number),
+            _ => Ok(()),
+        }
+    }
+
+    // What leads to the file from here on.
+    fn lead_to(&mut self, naming: Naming<'_>, file: Option<u64>) -> Result<(), Memory> {
+        let Some(file) = file else {
+            return Ok(());
+        };
+        if let Some(place) = naming.place {
+            self.place(place, file)?;
+        }
+        if let Some(identity) = naming.identity {
+            self.identify(identity, file)?;
+        }
+        Ok(())
+    }
+
+    /// The file that a CREATE opens, by what it is known by; its life begins with the response, a message with this number, where it
+    /// is new or wasn't known.
+    pub(crate) fn open(&mut self, naming: Naming<'_>, is_new: bool, number: u64) -> Result<Option<u64>, Memory> {
+        let found = self.find_by(naming);
+        let file = match naming.place {
+            Some(_) if is_new => Some(number),
+            Some(_) => Some(found.unwrap_or(number)),
+            None => found,
+        };
+        self.begin_life(naming.place, is_new, number, found)?;
+        self.lead_to(naming, file)?;
+        Ok(file)
     }
 
     /// Takes note of a message that is no CREATE response, and after which names may lead to other files or not.

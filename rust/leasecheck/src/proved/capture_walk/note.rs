@@ -1,8 +1,8 @@
 // Made by tools/plain_rust from crates/capture_walk/src/note.rt. Changes belong there.
 
 use crate::proved::capture_judge::Level;
-use crate::proved::capture_wire::{Guid, Smb2FileId};
-use smblease::proved::lease_state::LeaseKey;
+use crate::proved::capture_wire::{FileOnDisk, Guid, Smb2FileId};
+use smblease::proved::lease_state::{LeaseKey, LeaseState};
 
 /// A TREE_CONNECT request.
 #[derive(Clone, Copy, Debug, PartialEq, Eq)]
@@ -36,12 +36,15 @@ pub struct CreateAsked<'a> {
     pub unnamed: bool,
     /// A CLOSE in the same compound closes what it opens.
     pub closes: bool,
+    /// AppInstanceId of the application that asks.
+    pub application: Option<Guid>,
 }
 
 /// A lease in a CREATE response.
 #[derive(Clone, Copy, Debug, PartialEq, Eq)]
 pub struct LeaseGiven {
     pub key: LeaseKey,
+    pub state: LeaseState,
     pub level: Level,
     /// A break of it is in progress, so that nothing is granted.
     pub breaking: bool,
@@ -60,6 +63,8 @@ pub struct CreateGiven {
     pub is_new: bool,
     /// When the file was made.
     pub creation_time: u64,
+    /// Which file it is on the server's disk.
+    pub on_disk: Option<FileOnDisk>,
     /// A lease of either version on a file; those on folders don't count.
     pub lease: Option<LeaseGiven>,
 }
@@ -94,6 +99,7 @@ pub struct KeyLevel {
 pub struct BreakNote {
     pub key: LeaseKey,
     /// What it leaves.
+    pub state: LeaseState,
     pub level: Level,
     /// Whether it has to be acknowledged.
     pub acknowledged: bool,

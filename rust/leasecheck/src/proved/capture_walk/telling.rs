@@ -8,15 +8,8 @@ use crate::proved::capture_walk::event::{
     Said, Sent, Stray,
 };
 use crate::proved::capture_walk::note::{BreakNote, KeyLevel, LeaseGiven, Note, OpenName, Seen};
-use crate::proved::capture_walk::opens::Open;
+use crate::proved::capture_walk::opens::{Open, is_under};
 use smblease::proved::lease_state::{LeaseKey, Memory};
-
-fn is_under(lease: Option<Lease>, client: u64, key: LeaseKey) -> bool {
-    match lease {
-        Some(lease) => lease.client == client && lease.key.0.as_slice() == key.0.as_slice(),
-        None => false,
-    }
-}
 
 // The last open of a client with a lease under a key.
 fn open_under(opens: &[Open], client: Option<u64>, key: LeaseKey) -> Option<Open> {
@@ -114,8 +107,8 @@ fn push_gone(events: &mut Vec<Event>, asked: Option<Asked>) -> Result<(), Memory
 }
 
 // Whether an open under the lease is left after a message.
-fn is_kept(seen: &Seen<'_>, opens: &[Open], lease: Lease) -> bool {
-    opens.iter().any(|one| !one.ends(seen) && is_of(lease, one.lease))
+fn is_kept(seen: &Seen<'_>, made: Option<Open>, opens: &[Open], lease: Lease) -> bool {
+    opens.iter().any(|one| !one.ends(seen, made) && is_of(lease, one.lease))
 }
 
 // The MessageId of a CLOSE.
@@ -127,15 +120,21 @@ fn closing(seen: &Seen<'_>) -> Option<u64> {
 }
 
 // The end of the lease of an open that ends.
-fn push_ended_lease(events: &mut Vec<Event>, seen: &Seen<'_>, opens: &[Open], one: &Open) -> Result<(), Memory> {
-    if !one.ends(seen) {
+fn push_ended_lease(
+    events: &mut Vec<Event>,
+    seen: &Seen<'_>,
+    made: Option<Open>,
+    opens: &[Open],
+    one: &Open,
+) -> Result<(), Memory> {
+    if !one.ends(seen, made) {
         return Ok(());
     }
     let Some(lease) = one.lease else {
         return Ok(());
     };
     events.push(Event::Closed(Closed { opened: one.number }))?;
-    if !is_kept(seen, opens, lease) {
+    if !is_kept(seen, made, opens, lease) {
         events.push(Event::Ended(End {
             lease,
             first: seen.earliest,
@@ -147,10 +146,10 @@ fn push_ended_lease(events: &mut Vec<Event>, seen: &Seen<'_>, opens: &[Open], on
     Ok(())
 }
 
-/// The leases that end with the opens that a message ends.
-pub(crate) fn push_ended(events: &mut Vec<Event>, seen: &Seen<'_>, opens: &[Open]) -> Result<(), Memory> {
+/// The leases that end with the opens that a message ends, by the open that it makes.
+pub(crate) fn push_ended(events: &mut Vec<Event>, seen: &Seen<'_>, made: Option<Open>, opens: &[Open]) -> Result<(), Memory> {
     for one in opens {
-        push_ended_lease(events, seen, opens, one)?;
+        push_ended_lease(events, seen, made, opens, one)?;
     }
     Ok(())
 }
@@ -287,7 +286,7 @@ fn push_strayed(events: &mut Vec<Event>, lease: Lease, is_strayed: bool) -> Resu
 }
 
 fn grant_of(seen: &Seen<'_>, given: LeaseGiven, lease: Lease, asked: u64) -> Grant {
-    Grant { lease, level: given.level, sent: sent_at(seen), asked, epoch: given.epoch }
+    Grant { lease, state: given.state, level: given.level, sent: sent_at(seen), asked, epoch: given.epoch }
 }
 
 fn push_granted_lease(
@@ -353,7 +352,14 @@ fn new_epoch(said: Option<Said>, epoch: u16) -> Option<u16> {
 }
 
 fn break_of(seen: &Seen<'_>, one: BreakNote, lease: Lease, said: Option<Said>) -> Break {
-    Break { lease, level: one.level, sent: sent_at(seen), acknowledged: one.acknowledged, epoch: new_epoch(said, one.epoch) }
+    Break {
+        lease,
+        state: one.state,
+        level: one.level,
+        sent: sent_at(seen),
+        acknowledged: one.acknowledged,
+        epoch: new_epoch(said, one.epoch),
+    }
 }
 
 fn push_stray(events: &mut Vec<Event>, seen: &Seen<'_>, one: BreakNote, client: u64) -> Result<(), Memory> {

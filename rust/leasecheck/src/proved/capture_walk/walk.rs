@@ -12,6 +12,7 @@ use crate::proved::capture_walk::renames::Renames;
 use crate::proved::capture_walk::sides::Sides;
 use crate::proved::capture_walk::telling::{push_ended, push_heard, push_remade, push_told};
 use crate::proved::capture_walk::trees::Trees;
+use crate::proved::capture_wire::Guid;
 use smblease::proved::lease_state::Memory;
 use std::alloc::Global;
 
@@ -58,20 +59,19 @@ impl Walk {
     // What the message opens, if it is a CREATE response; and which files have which names after it.
     fn name_files(&mut self, seen: &Seen<'_>) -> Result<Option<Open>, Memory> {
         let Some(given) = seen.note.create_given() else {
-            let is_change = self.renames.is_change(seen);
-            self.files.note_change(is_change);
+            self.files.note_change(self.renames.is_change(seen));
             return Ok(None);
         };
-        open_given(&self.clients, &self.trees, &self.creates, &mut self.files, seen, given)
+        open_given(&self.clients, &self.trees, &self.creates, &self.opens, &mut self.files, seen, given)
     }
 
-    fn drop_opens(&mut self, seen: &Seen<'_>) {
-        self.opens.retain(|one| !one.ends(seen));
+    fn drop_opens(&mut self, seen: &Seen<'_>, made: Option<Open>) {
+        self.opens.retain(|one| !one.ends(seen, made));
     }
 
     // The opens after the message.
     fn change_opens(&mut self, seen: &Seen<'_>, made: Option<Open>) -> Result<(), Memory> {
-        self.drop_opens(seen);
+        self.drop_opens(seen, made);
         if let Some(one) = made {
             self.opens.insert(0, one)?;
         }
@@ -88,7 +88,7 @@ impl Walk {
         let made = self.name_files(seen)?;
         let client = self.clients.of(seen.connection);
         push_heard(&mut self.events, seen, client, &self.opens)?;
-        push_ended(&mut self.events, seen, &self.opens)?;
+        push_ended(&mut self.events, seen, made, &self.opens)?;
         push_remade(&mut self.events, remade)?;
         let since = self.sides.missing_since(seen.connection);
         push_told(&mut self.events, seen, client, made, since, &self.opens)?;
@@ -103,6 +103,11 @@ impl Walk {
     /// Where a file is, by its number.
     pub fn place_of(&self, file: u64) -> Option<Place<'_>> {
         self.files.place_of(file)
+    }
+
+    /// The ClientGuid of a client, by its number.
+    pub fn guid_of(&self, client: u64) -> Option<Guid> {
+        self.clients.guid_of(client)
     }
 
     /// What the messages so far show of leases, in the order of the capture.

@@ -1,12 +1,15 @@
 // Made by tools/plain_rust from crates/capture_wire/src/contexts.rt. Changes belong there.
 
-use crate::proved::capture_wire::field::{has_flag, sixteen_at};
+use crate::proved::capture_wire::field::{Guid, has_flag, sixteen_at};
 use byteorder::{ByteOrder, LittleEndian};
 use smblease::proved::lease_state::{LeaseKey, LeaseState};
 use smblease::proved::lease_wire::{Context, Contexts, Direction, WireFault, contexts_of_create};
 
 // SMB2_LEASE_FLAG_BREAK_IN_PROGRESS
 const BREAK_IN_PROGRESS: u32 = 2;
+
+// The name of SMB2_CREATE_APP_INSTANCE_ID
+const APP_INSTANCE: [u8; 16] = [0x45, 0xbc, 0xa6, 0x6a, 0xef, 0xa7, 0xf7, 0x4a, 0x90, 0x08, 0xfa, 0x46, 0x2e, 0x14, 0x4d, 0x74];
 
 /// What an `RqLs` context of either version says (MS-SMB2 2.2.13.2.8, 2.2.13.2.10, 2.2.14.2.10, 2.2.14.2.11).
 #[derive(Clone, Copy, Debug, PartialEq, Eq)]
@@ -20,6 +23,15 @@ pub struct LeaseContext {
     pub epoch: Option<u16>,
 }
 
+/// Which file it is on the server's disk, whatever its name (MS-SMB2 2.2.14.2.9).
+#[derive(Clone, Copy, Debug, PartialEq, Eq)]
+pub struct FileOnDisk {
+    /// DiskFileId.
+    pub file: u64,
+    /// VolumeId.
+    pub volume: u64,
+}
+
 /// What the create contexts of a CREATE request ask for, or those of a response grant. Of several of a kind the first one counts.
 #[derive(Clone, Copy, Debug, PartialEq, Eq)]
 pub struct CreateContexts {
@@ -31,6 +43,10 @@ pub struct CreateContexts {
     pub reconnect: bool,
     /// `TWrp`: the file is opened as it was at an earlier time.
     pub snapshot: bool,
+    /// `QFid` of a response, with data of 32 bytes: the file that is opened.
+    pub on_disk: Option<FileOnDisk>,
+    /// SMB2_CREATE_APP_INSTANCE_ID (MS-SMB2 2.2.13.2.13), with data of 20 bytes: the application that asks, wherever it runs.
+    pub app_instance: Option<Guid>,
 }
 
 // The contexts that are looked for.
@@ -40,6 +56,8 @@ pub(crate) enum Kind {
     Durable,
     Reconnect,
     Snapshot,
+    OnDisk,
+    AppInstance,
 }
 
 fn is_of_kind(kind: Kind, context: &Context<'_>) -> bool {
@@ -49,6 +67,8 @@ fn is_of_kind(kind: Kind, context: &Context<'_>) -> bool {
         Kind::Durable => name == b"DHnQ".as_slice() || name == b"DH2Q".as_slice(),
         Kind::Reconnect => name == b"DHnC".as_slice() || name == b"DH2C".as_slice(),
         Kind::Snapshot => name == b"TWrp".as_slice(),
+        Kind::OnDisk => name == b"QFid".as_slice() && size == 32,
+        Kind::AppInstance => name == APP_INSTANCE.as_slice() && size == 20,
     }
 }
 
@@ -102,6 +122,16 @@ fn lease_of(direction: Direction, contexts: Contexts<'_>) -> Option<LeaseContext
     }
 }
 
+fn on_disk_of(contexts: Contexts<'_>) -> Option<FileOnDisk> {
+    let context = find_context(Kind::OnDisk, contexts)?;
+    Some(FileOnDisk { file: LittleEndian::read_u64(context.body), volume: LittleEndian::read_u64(&context.body[8..]) })
+}
+
+fn app_instance_of(contexts: Contexts<'_>) -> Option<Guid> {
+    let context = find_context(Kind::AppInstance, contexts)?;
+    Some(Guid(sixteen_at(context.body, 4)))
+}
+
 /// What the create contexts of a whole CREATE request or response say (MS-SMB2 2.2.13.2, 2.2.14.2), from its header on.
 ///
 /// # Errors
@@ -114,5 +144,7 @@ pub fn read_create_contexts(direction: Direction, message: &[u8]) -> Result<Crea
     let durable = find_context(Kind::Durable, contexts_of_create(direction, message)?).is_some();
     let reconnect = find_context(Kind::Reconnect, contexts_of_create(direction, message)?).is_some();
     let snapshot = find_context(Kind::Snapshot, contexts_of_create(direction, message)?).is_some();
-    Ok(CreateContexts { lease, durable, reconnect, snapshot })
+    let on_disk = on_disk_of(contexts_of_create(direction, message)?);
+    let app_instance = app_instance_of(contexts_of_create(direction, message)?);
+    Ok(CreateContexts { lease, durable, reconnect, snapshot, on_disk, app_instance })
 }

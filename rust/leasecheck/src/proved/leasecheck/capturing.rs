@@ -3,8 +3,8 @@
 use std::prelude::String;
 
 use crate::proved::capture_texts::{
-    Capture, CaptureVerdict, ClientFinding, EpochFinding, FileFinding, RecordLine, Report, Side, notes_of, push_counts,
-    push_epoch, push_file, push_lost, read_capture, record_of,
+    Capture, CaptureVerdict, ClientFinding, EpochFinding, FileFinding, LeaseFinding, RecordLine, Report, Side, notes_of,
+    push_counts, push_epoch, push_file, push_lease, push_lost, read_capture, record_of,
 };
 use crate::proved::lease_texts::{TextFault, push_fact};
 use crate::proved::leasecheck::failure::Failure;
@@ -28,10 +28,19 @@ fn push_verdict(text: &mut String, verdict: CaptureVerdict) -> Result<(), AllocE
     }
 }
 
+fn push_leases(alloc: Global, text: &mut String, leases: &[LeaseFinding]) -> Result<(), AllocError> {
+    for lease in leases {
+        push_lease(alloc, text, lease)?;
+        text.push_str("\n")?;
+    }
+    Ok(())
+}
+
 fn push_files(alloc: Global, text: &mut String, files: &[FileFinding]) -> Result<(), AllocError> {
     for file in files {
         push_file(alloc, text, file)?;
         text.push_str("\n")?;
+        push_leases(alloc, text, &file.leases)?;
     }
     Ok(())
 }

@@ -164,7 +164,7 @@ fn decided(report: &Report) -> Option<&Judged> {
 // The packet of the charge on the only file.
 fn charged_packet(report: &Report) -> Option<u64> {
     match decided(report) {
-        Some(Judged::Unsafe(Some(moment))) => Some(moment.packet),
+        Some(Judged::Unsafe(clash)) => clash.moment.as_ref().map(|moment| moment.packet),
         _ => None,
     }
 }
@@ -218,7 +218,10 @@ fn closed_late(alloc: Global, acknowledged: u8) -> Result<Report, Fail> {
 fn a_close_may_have_been_sent_before_it_came() {
     passes(|| -> Result<(), Fail> {
         let report = closed_late(Global, 3)?;
-        assert!(matches!(decided(&report), Some(Judged::Granted(Some(moment))) if moment.packet == 25));
+        let Some(Judged::Granted(clash)) = decided(&report) else {
+            return Err(Fail::new("it is the server's grants"));
+        };
+        assert!(clash.moment.as_ref().is_some_and(|moment| moment.packet == 25));
         Ok(())
     })
 }

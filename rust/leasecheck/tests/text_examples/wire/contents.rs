@@ -105,7 +105,14 @@ pppppppppppppppp\x02\x01\0\0\0\0\0\0",
         )?;
         let mut bytes = message(Global, 5, 0, ASKED, &body)?;
         let lease = LeaseContext { key: KEY, state: LeaseState::from_wire(7), breaking: false, epoch: Some(0x0102) };
-        let wanted = CreateContexts { lease: Some(lease), durable: false, reconnect: false, snapshot: false };
+        let wanted = CreateContexts {
+            lease: Some(lease),
+            durable: false,
+            reconnect: false,
+            snapshot: false,
+            on_disk: None,
+            app_instance: None,
+        };
         assert_eq!(read_create_contexts(Direction::Request, &bytes), Ok(wanted));
         bytes.truncate(190);
         assert_eq!(read_message(&bytes).err(), Some(Unreadable::Contexts(WireFault::BadData(120))));

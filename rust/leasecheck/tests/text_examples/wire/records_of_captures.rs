@@ -95,8 +95,11 @@ fn all_messages_of_a_packet_are_named() {
     passes(|| -> Result<(), Fail> {
         let alloc = Global;
         let report = compound_report(alloc)?;
-        let Some(Judged::Unsafe(Some(moment))) = report.files.first().map(|file| &file.judged) else {
+        let Some(Judged::Unsafe(clash)) = report.files.first().map(|file| &file.judged) else {
             return Err(Fail::new("the file is unsafe"));
+        };
+        let Some(moment) = &clash.moment else {
+            return Err(Fail::new("the packet is known"));
         };
         let name = |command| MessageName { command, part: MessagePart::Request };
         assert_eq!(moment.messages.as_slice(), [name(Command::Read), name(Command::Echo)].as_slice());
@@ -115,10 +118,15 @@ fn notes_say_what_was_found() {
         let alloc = Global;
         let notes = notes_of(alloc, &unsafe_report(alloc)?)?;
         let text = text_of(alloc, notes.as_slice())?;
-        let wanted = r"# file 10.0.0.9:445 \s\f: unsafe, packet 26 at 26.25, 10.0.0.1:50000, 10.0.0.2:50000
-# 2 connections, 16 frames, 0 of them unreadable
-";
-        assert_eq!(text.as_str(), wanted);
+        let lease = |client: u8, packet: u8| {
+            format!(in alloc; "#     lease of 10.0.0.{client}:50000, ClientGuid 67756964-206f-6620-6120-636c69656e0{client}, \
+key 00010203-0405-0607-0809-0a0b0c0d0e0f: RW by packet {packet} at {packet}.25 to 10.0.0.{client}:50000, not broken since\n")
+        };
+        let (first, second) = (lease(1, 15)?, lease(2, 25)?);
+        let file = r"# file 10.0.0.9:445 \s\f: unsafe, packet 26 at 26.25, 10.0.0.1:50000, 10.0.0.2:50000";
+        let counts = "# 2 connections, 16 frames, 0 of them unreadable";
+        let wanted = format!(in alloc; "{file}\n{first}{second}{counts}\n")?;
+        assert_eq!(text.as_str(), wanted.as_str());
         Ok(())
     })
 }

@@ -4,7 +4,7 @@
 use crate::wire::walks::{answer, ask, break_to, grant, keeps, key, open_name, seen, use_open};
 use leasecheck::proved::capture_judge::{Charge, Level, Placing, judge_placing};
 use leasecheck::proved::capture_walk::{BreakNote, Note, Walk, chains_on, tables_on};
-use smblease::proved::lease_state::Memory;
+use smblease::proved::lease_state::{LeaseState, Memory};
 use smblease_std::alloc::Global;
 use smblease_std::test::Fail;
 use smblease_std::test::passes;
@@ -99,7 +99,7 @@ fn a_break_of_reads_alone_makes_room() {
     passes(|| -> Result<(), Fail> {
         let alloc = Global;
         let mut walk = beside(alloc, Level::Something)?;
-        let taken_away = BreakNote { key: key(1), level: Level::Nothing, acknowledged: false, epoch: 0 };
+        let taken_away = BreakNote { key: key(1), state: LeaseState::NONE, level: Level::Nothing, acknowledged: false, epoch: 0 };
         walk.take(&seen(12, 1, Note::Break(taken_away)))?;
         grant(&mut walk, 13, 2, Level::Writes)?;
         use_open(&mut walk, 14, 1)?;

@@ -21,6 +21,15 @@ pub(super) fn key(connection: u8) -> LeaseKey {
     key
 }
 
+// A state of that level.
+pub(super) fn state_at(level: Level) -> LeaseState {
+    LeaseState::from_wire(match level {
+        Level::Nothing => 0,
+        Level::Something => 1,
+        Level::Writes => 5,
+    })
+}
+
 pub(super) fn open_name(id: u64, connection: u8) -> OpenName {
     OpenName { id, session: u64::from(connection), file_id: Smb2FileId { persistent: u64::from(connection), volatile: 5 } }
 }
@@ -49,7 +58,7 @@ pub(super) fn ask(walk: &mut Walk, number: u64, connection: u8, name: &[u8]) -> 
     walk.take(&seen(number.saturating_add(1), connection, Note::TreeAsked(asked)))?;
     let given = TreeGiven { id: 1, session: u64::from(connection), tree: 7 };
     walk.take(&seen(number.saturating_add(2), connection, Note::TreeGiven(given)))?;
-    let asked = CreateAsked { id: 2, tree: 7, name, key: Some(key(connection)), unnamed: false, closes: false };
+    let asked = CreateAsked { id: 2, tree: 7, name, key: Some(key(connection)), unnamed: false, closes: false, application: None };
     walk.take(&seen(number.saturating_add(3), connection, Note::CreateAsked(asked)))
 }
 
@@ -61,9 +70,16 @@ pub(super) fn grant(walk: &mut Walk, number: u64, connection: u8, level: Level) 
 // The same with an epoch, where the lease is of version 2.
 fn grant_numbered(walk: &mut Walk, number: u64, connection: u8, level: Level, epoch: Option<u16>) -> Result<(), Memory> {
     let name = open_name(0, connection);
-    let lease = LeaseGiven { key: key(connection), level, breaking: false, epoch };
-    let given =
-        CreateGiven { id: 2, session: name.session, file_id: name.file_id, is_new: false, creation_time: 0, lease: Some(lease) };
+    let lease = LeaseGiven { key: key(connection), state: state_at(level), level, breaking: false, epoch };
+    let given = CreateGiven {
+        id: 2,
+        session: name.session,
+        file_id: name.file_id,
+        is_new: false,
+        creation_time: 0,
+        on_disk: None,
+        lease: Some(lease),
+    };
     walk.take(&seen(number, connection, Note::CreateGiven(given)))
 }
 
@@ -309,7 +325,7 @@ pub(super) fn keeps<'a>(id: u64, level: Level) -> Note<'a> {
 
 // A break of the first client's lease.
 pub(super) fn break_to<'a>(level: Level, epoch: u16) -> Note<'a> {
-    Note::Break(BreakNote { key: key(1), level, acknowledged: true, epoch })
+    Note::Break(BreakNote { key: key(1), state: state_at(level), level, acknowledged: true, epoch })
 }
 
 fn is_dispute(event: &Event) -> bool {
@@ -484,7 +500,7 @@ fn epochs_come_from_frames() {
         bytes.extend_from_slice(&KEY.0)?;
         bytes.extend_from_slice(b"\x05\0\0\0\0\0\0\0\0\0\0\0\0\0\0\0")?;
         bytes.extend_from_slice(b"pppppppppppppppp\x07\0\0\0\0\0\0\0")?;
-        let lease = LeaseGiven { key: KEY, level: Level::Writes, breaking: false, epoch: Some(7) };
+        let lease = LeaseGiven { key: KEY, state: LeaseState::from_wire(5), level: Level::Writes, breaking: false, epoch: Some(7) };
         for message in &read_frame(alloc, &bytes)? {
             let note = note_of(message, ids_of(message, None), false);
             assert!(matches!(note, Note::CreateGiven(given) if given.lease == Some(lease)));
@@ -494,7 +510,8 @@ fn epochs_come_from_frames() {
         bytes.extend_from_slice(b"\x2c\0\x08\0\x01\0\0\0")?;
         bytes.extend_from_slice(&KEY.0)?;
         bytes.extend_from_slice(b"\x05\0\0\0\x01\0\0\0\0\0\0\0\0\0\0\0\0\0\0\0")?;
-        let wanted = BreakNote { key: KEY, level: Level::Something, acknowledged: true, epoch: 8 };
+        let reads = LeaseState::from_wire(1);
+        let wanted = BreakNote { key: KEY, state: reads, level: Level::Something, acknowledged: true, epoch: 8 };
         for message in &read_frame(alloc, &bytes)? {
             let note = note_of(message, ids_of(message, None), false);
             assert_eq!(note, Note::Break(wanted));

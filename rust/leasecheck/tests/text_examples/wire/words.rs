@@ -1,7 +1,7 @@
 //! What people read of a capture: words for what is decided of a file, for why a client isn't judged, and for messages.
 
 use leasecheck::proved::capture_texts::{
-    ClientFinding, ClientName, FileFinding, FilePlace, Judged, MessageName, MessagePart, push_file, push_lost,
+    Clash, ClientFinding, ClientName, FileFinding, FilePlace, Judged, MessageName, MessagePart, push_file, push_lost,
 };
 use leasecheck::proved::capture_walk::NotJudged;
 use leasecheck::proved::capture_wire::Command;
@@ -12,7 +12,14 @@ use smblease_std::test::Fail;
 use smblease_std::test::passes;
 
 fn said_of(alloc: Global, place: Option<FilePlace>, judged: Judged) -> Result<String, Fail> {
-    let file = FileFinding { file: 1, place, judged, clients: Vec::new(alloc), beliefs: Vec::new(alloc) };
+    let file = FileFinding {
+        file: 1,
+        place,
+        judged,
+        clients: Vec::new(alloc),
+        beliefs: Vec::new(alloc),
+        leases: Vec::new(alloc),
+    };
     let mut text = String::new(alloc);
     push_file(alloc, &mut text, &file)?;
     Ok(text)
@@ -23,8 +30,8 @@ fn what_is_decided_of_a_file_has_words() {
     passes(|| -> Result<(), Fail> {
         for (judged, words) in [
             (Judged::Safe, "file: safe"),
-            (Judged::Unsafe(None), "file: unsafe"),
-            (Judged::Granted(None), "file: unsafe by the server's grants"),
+            (Judged::Unsafe(Clash { position: 1, moment: None }), "file: unsafe"),
+            (Judged::Granted(Clash { position: 1, moment: None }), "file: unsafe by the server's grants"),
             (Judged::NoClient, "file: not judged, no client of it is"),
             (Judged::Contradictory, "file: not judged, what is shown can't have happened"),
             (Judged::TooMany, "file: not judged, it can have happened in too many ways"),

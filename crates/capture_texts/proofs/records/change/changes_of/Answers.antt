@@ -1,4 +1,4 @@
-use Rattle.std.proofs.Common.{◌≡◌, ◌+◌, ◌++◌, List, refl, sym, ap, ◌∙◌, take, map, arith}
+use Rattle.std.proofs.Common.{◌≡◌, ◌+◌, ◌++◌, List, refl, sym, ap, ◌∙◌, take, map, arith, slice_index_or}
 use Rattle.std.proofs.lemmas.Bool.{ltb-true, ltb-false}
 use Rattle.std.proofs.lemmas.Option.{slice_get_read, slice_get_within}
 use Rattle.capture_texts.specs.declared.finding.Belief.{Belief}
@@ -10,14 +10,15 @@ use Rattle.capture_texts.proofs.records.change.changes_of.Goals.{in-Some+in_ok-p
 pub loop-index-preserved : goal.loop-index-preserved
 loop-index-preserved c = λ chosen all.
     elim c.match-get.branch as (λ _. map shown c.match-get.changes.items
-    ≡ changes_of c.args.clients.now (take (c.loop-index.index + 1) chosen)) [
+    ≡ changes_of c.args.clients.now c.args.findings.now (take (c.loop-index.index + 1) chosen)) [
       | in-Some+in_ok-push_changes w ↦
           let inside = ltb-true _ _ (sym w.in-Some.ensures.lookup.0)
           in let at = slice_get_read _ _ _ _ refl inside w.in-Some.ensures.lookup.1
           in rw w.changes-is (changes-more c.args.files.now c.args.clients.now c.args.findings.now chosen c.loop-index.index 0
           w.in-Some.file.now (map shown c.loop-index.changes.items) (map shown w.push_changes.new.changes.items) all
           c.loop-index-test.true at (w.in_ok-push_changes.ensures ∙ ap (λ (beliefs : List Belief). map shown c.loop-index.changes.items
-          ++ changes_in c.args.clients.now (c.loop-index.index + 1) beliefs) w.as_slice.ensures.value)
+          ++ changes_in c.args.clients.now (c.loop-index.index + 1)
+          (slice_index_or c.args.findings.now c.loop-index.index 0) 0 beliefs) w.as_slice.ensures.value)
           (c.loop-index.invariant chosen all))
       | in_default w ↦
           let there = at-place c.args.files.now c.args.findings.now chosen c.loop-index.index 0 all c.loop-index-test.true

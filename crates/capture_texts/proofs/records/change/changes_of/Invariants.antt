@@ -7,4 +7,4 @@ use Rattle.capture_texts.proofs.records.change.changes_of.Given as goal
 
 abbrev pub invariant-loop-index : goal.invariant-loop-index
 invariant-loop-index l = (chosen : List FileFinding) → AllZip (IsAt l.files) l.findings chosen
-    → map shown l.changes.items ≡ changes_of l.clients (take l.index chosen)
+    → map shown l.changes.items ≡ changes_of l.clients l.findings (take l.index chosen)

@@ -1,9 +1,11 @@
-use Rattle.std.proofs.Common.{◌≡◌}
-use Rattle.capture_texts.specs.records.Records.{are_lines, facts_in}
+use Rattle.std.proofs.Common.{◌≡◌, ◌++◌, take}
+use Rattle.std.specs.List.{flat_map}
+use Rattle.capture_texts.specs.records.Records.{are_lines, facts_in, tells, file_remarks}
 use Rattle.capture_texts.proofs.records.notes.push_files.Given as goal
 
 abbrev pub invariant-loop-file : goal.invariant-loop-file
 invariant-loop-file l = record {
   facts : facts_in l.lines.items ≡ facts_in l.initial.lines.items;
   lines : are_lines l.lines.items ≡ are_lines l.initial.lines.items;
+  told : tells l.lines.items ≡ tells l.initial.lines.items ++ flat_map file_remarks (take l.file-index l.files);
 }

@@ -1,9 +1,11 @@
-use Rattle.std.proofs.Common.{◌≡◌, ◌++◌}
-use Rattle.capture_texts.specs.records.Records.{are_lines, facts_in, starts}
+use Rattle.std.proofs.Common.{◌≡◌, ◌++◌, drop}
+use Rattle.capture_texts.specs.records.Records.{are_lines, facts_in, starts, tells, starts_told}
 use Rattle.capture_texts.proofs.records.record.push_starts.Given as goal
 
 abbrev pub invariant-loop-index : goal.invariant-loop-index
 invariant-loop-index l = record {
   facts : facts_in l.lines.items ≡ facts_in l.initial.lines.items ++ starts l.index;
   lines : are_lines l.lines.items ≡ are_lines l.initial.lines.items;
+  told : tells l.lines.items ++ starts_told l.files l.index (drop l.index l.findings)
+      ≡ tells l.initial.lines.items ++ starts_told l.files 0 l.findings;
 }

@@ -2,17 +2,27 @@
 
 use std::prelude::{String, Vec};
 
-use crate::proved::capture_texts::finding::{ClientFinding, EpochFinding, FileFinding, Report};
+use crate::proved::capture_texts::finding::{ClientFinding, EpochFinding, FileFinding, LeaseFinding, Report};
 use crate::proved::capture_texts::records::record::{RecordLine, push_remark};
-use crate::proved::capture_texts::texts::{push_counts, push_epoch, push_file, push_lost};
+use crate::proved::capture_texts::texts::{push_counts, push_epoch, push_file, push_lease, push_lost};
 use smblease::proved::lease_state::Memory;
 use std::alloc::Global;
+
+fn push_leases(alloc: Global, lines: &mut Vec<RecordLine>, leases: &[LeaseFinding]) -> Result<(), Memory> {
+    for lease in leases {
+        let mut remark = String::new(alloc);
+        push_lease(alloc, &mut remark, lease)?;
+        push_remark(lines, remark)?;
+    }
+    Ok(())
+}
 
 fn push_files(alloc: Global, lines: &mut Vec<RecordLine>, files: &[FileFinding]) -> Result<(), Memory> {
     for file in files {
         let mut remark = String::new(alloc);
         push_file(alloc, &mut remark, file)?;
         push_remark(lines, remark)?;
+        push_leases(alloc, lines, file.leases.as_slice())?;
     }
     Ok(())
 }

@@ -1,16 +1,17 @@
 // Made by tools/plain_rust from crates/capture_texts/src/records/record.rt. Changes belong there.
 
-use std::prelude::{String, Vec, format};
+use std::prelude::{String, Vec};
 
 use crate::proved::capture_judge::Level;
-use crate::proved::capture_texts::finding::{ClientName, FileFinding, Report};
+use crate::proved::capture_texts::finding::{Belief, ClientName, FileFinding, FilePlace, Report};
 use crate::proved::capture_texts::line::Moment;
+use crate::proved::capture_texts::names::MessageName;
 use crate::proved::capture_texts::records::cast::{Cast, cast_of, count_wanted};
 use crate::proved::capture_texts::records::change::{Change, changes_of};
-use crate::proved::capture_texts::texts::{push_client, push_moment, push_place};
+use crate::proved::capture_texts::texts::{command_words, part_words, push_client, push_moment, push_place};
 use smblease::proved::lease_facts::Fact;
 use smblease::proved::lease_state::{Bytes, ClientNo, FileNo, LeaseState, Memory};
-use std::alloc::Global;
+use std::alloc::{AllocError, Global};
 
 /// A line of the record of a capture.
 #[derive(Debug)]
@@ -46,60 +47,90 @@ fn push_fact(lines: &mut Vec<RecordLine>, fact: Fact) -> Result<(), Memory> {
     Ok(())
 }
 
-fn file_remark(alloc: Global, number: u8, file: Option<&FileFinding>) -> Result<String, Memory> {
-    let mut remark = String::new(alloc);
-    write!(&mut remark, "file {number}")?;
-    if let Some(place) = file.and_then(|file| file.place.as_ref()) {
+fn push_found(alloc: Global, remark: &mut String, place: &Option<FilePlace>) -> Result<(), AllocError> {
+    if let Some(place) = place {
         remark.push_str(" is ")?;
-        push_place(alloc, &mut remark, place)?;
-    }
-    Ok(remark)
-}
-
-fn client_remark(alloc: Global, number: u8, name: Option<&ClientName>) -> Result<String, Memory> {
-    let mut remark = String::new(alloc);
-    write!(&mut remark, "client {number}")?;
-    if let Some(name) = name {
-        remark.push_str(" is ")?;
-        push_client(alloc, &mut remark, name)?;
-    }
-    Ok(remark)
-}
-
-// A moment with the names of its messages.
-fn push_named_moment(alloc: Global, remark: &mut String, moment: &Moment) -> Result<(), Memory> {
-    push_moment(alloc, remark, moment)?;
-    for name in moment.messages.as_slice() {
-        write!(remark, ", {name}")?;
+        push_place(alloc, remark, place)?;
     }
     Ok(())
 }
 
-fn change_remark(alloc: Global, files: &[FileFinding], change: Change) -> Result<String, Memory> {
+fn file_remark(alloc: Global, number: u8, files: &[FileFinding], place: usize) -> Result<String, Memory> {
     let mut remark = String::new(alloc);
-    let beliefs = files.get(change.finding).map(|file| file.beliefs.as_slice());
-    let belief = beliefs.and_then(|beliefs| beliefs.get(change.belief));
-    match belief.and_then(|belief| belief.moment.as_ref()) {
-        Some(moment) => push_named_moment(alloc, &mut remark, moment)?,
-        None => remark.push_str("before all packets")?,
+    write!(&mut remark, "file {number}")?;
+    if let Some(file) = files.get(place) {
+        push_found(alloc, &mut remark, &file.place)?;
     }
     Ok(remark)
 }
 
-// The name of a client, by its number.
-fn name_of<'a>(files: &'a [FileFinding], client: u64) -> Option<&'a ClientName> {
-    for file in files {
-        if let Some(name) = file.clients.iter().find(|name| name.number == client) {
+// The name of a client among those of a file, by its number.
+fn named_in(names: &[ClientName], client: u64) -> Option<&ClientName> {
+    for name in names {
+        if name.number == client {
             return Some(name);
         }
     }
     None
 }
 
+// The name of a client.
+fn name_in(files: &[FileFinding], client: u64) -> Option<&ClientName> {
+    for file in files {
+        if let Some(name) = named_in(&file.clients, client) {
+            return Some(name);
+        }
+    }
+    None
+}
+
+fn client_remark(alloc: Global, number: u8, files: &[FileFinding], client: u64) -> Result<String, Memory> {
+    let mut remark = String::new(alloc);
+    write!(&mut remark, "client {number}")?;
+    if let Some(name) = name_in(files, client) {
+        remark.push_str(" is ")?;
+        push_client(alloc, &mut remark, name)?;
+    }
+    Ok(remark)
+}
+
+// The names of messages, each after a comma.
+fn push_messages(remark: &mut String, names: &[MessageName]) -> Result<(), AllocError> {
+    for name in names {
+        remark.push_str(", ")?;
+        remark.push_str(command_words(name.command))?;
+        remark.push_str(part_words(name.part))?;
+    }
+    Ok(())
+}
+
+fn push_when(alloc: Global, remark: &mut String, moment: &Option<Moment>) -> Result<(), AllocError> {
+    match moment {
+        Some(moment) => {
+            push_moment(alloc, remark, moment)?;
+            push_messages(remark, moment.messages.as_slice())
+        }
+        None => remark.push_str("before all packets"),
+    }
+}
+
+fn belief_of(files: &[FileFinding], change: Change) -> Option<&Belief> {
+    files.get(change.finding)?.beliefs.get(change.belief)
+}
+
+fn change_remark(alloc: Global, files: &[FileFinding], change: Change) -> Result<String, Memory> {
+    let mut remark = String::new(alloc);
+    match belief_of(files, change) {
+        Some(belief) => push_when(alloc, &mut remark, &belief.moment)?,
+        None => remark.push_str("before all packets")?,
+    }
+    Ok(remark)
+}
+
 fn push_starts(alloc: Global, lines: &mut Vec<RecordLine>, files: &[FileFinding], findings: &[usize]) -> Result<(), Memory> {
     for (index, finding) in findings.iter().enumerate() {
         let number = index as u8 + 1;
-        push_remark(lines, file_remark(alloc, number, files.get(*finding))?)?;
+        push_remark(lines, file_remark(alloc, number, files, *finding)?)?;
         push_fact(lines, Fact::Start(FileNo(number), Bytes::new(Vec::new(alloc))))?;
     }
     Ok(())
@@ -108,7 +139,7 @@ fn push_starts(alloc: Global, lines: &mut Vec<RecordLine>, files: &[FileFinding]
 fn push_joins(alloc: Global, lines: &mut Vec<RecordLine>, files: &[FileFinding], clients: &[u64]) -> Result<(), Memory> {
     for (index, client) in clients.iter().enumerate() {
         let number = index as u8 + 1;
-        push_remark(lines, client_remark(alloc, number, name_of(files, *client))?)?;
+        push_remark(lines, client_remark(alloc, number, files, *client)?)?;
         push_fact(lines, Fact::Joined(ClientNo(number)))?;
     }
     Ok(())
@@ -122,14 +153,16 @@ fn push_beliefs(alloc: Global, lines: &mut Vec<RecordLine>, files: &[FileFinding
     Ok(())
 }
 
+fn left_remark(alloc: Global, count: usize) -> Result<String, Memory> {
+    let mut remark = String::new(alloc);
+    write!(&mut remark, "{count} files are left out, for which there are no numbers")?;
+    Ok(remark)
+}
+
 // Says how many files there was no room for.
-fn push_left_out(alloc: Global, lines: &mut Vec<RecordLine>, files: &[FileFinding], cast: &Cast) -> Result<(), Memory> {
-    let left_out = count_wanted(files).saturating_sub(cast.findings.len());
-    if left_out > 0 {
-        let remark = format!(in alloc;
-            "{left_out} files are left out, for which there are no numbers"
-        )?;
-        push_remark(lines, remark)?;
+fn push_left_out(alloc: Global, lines: &mut Vec<RecordLine>, count: usize) -> Result<(), Memory> {
+    if count > 0 {
+        push_remark(lines, left_remark(alloc, count)?)?;
     }
     Ok(())
 }
@@ -147,7 +180,8 @@ fn lines_of(alloc: Global, files: &[FileFinding], cast: &Cast) -> Result<Vec<Rec
     let mut lines = Vec::new(alloc);
     push_starts(alloc, &mut lines, files, cast.findings.as_slice())?;
     push_joins(alloc, &mut lines, files, cast.clients.as_slice())?;
-    push_left_out(alloc, &mut lines, files, cast)?;
+    let left_out = count_wanted(files).saturating_sub(cast.findings.len());
+    push_left_out(alloc, &mut lines, left_out)?;
     push_beliefs(alloc, &mut lines, files, changes.as_slice())?;
     Ok(lines)
 }
