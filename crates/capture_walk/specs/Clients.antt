@@ -1,10 +1,13 @@
 -- Whose a connection is: that of the client with the ClientGuid of its NEGOTIATE. Several connections may be one client's.
 -- Messages that are called past have the newest one first.
 use Rattle.std.specs.Prelude.{◌≡◌, ℕ, ◌==◌, if◌then◌else◌, List, [], ◌∷◌, Option, Some, None, unwrap_or, bytes_eq}
+use Rattle.std.specs.BTreeMap.{get}
+use Rattle.std.specs.Cmp.Lexicographic.{slice_cmp}
+use Rattle.std.specs.Ordering.{nat_cmp, on}
+use Rattle.std.specs.declared.cmp.Ordering.{Ordering}
 use Rattle.capture_wire.specs.declared.field.Guid.{Guid}
 use Rattle.capture_walk.specs.Notes.{negotiated}
 use Rattle.capture_walk.specs.declared.note.Seen.{Seen}
-use Rattle.capture_walk.specs.declared.clients.Known.{Known}
 use Rattle.capture_walk.specs.declared.clients.Clients.{Clients}
 
 -- ---- by looking back
@@ -38,21 +41,21 @@ abbrev pub guid_of : ℕ → List Seen → Option Guid
 guid_of client [] = None
 guid_of client (seen ∷ past) = guid_by client seen (negotiated seen.note) past (guid_of client past)
 
--- ---- the table, which has the newest entry first
+-- ---- the tables
 
-abbrev pub number_in : List ℕ → List Known → Option ℕ
-number_in guid [] = None
-number_in guid (known ∷ table) = if bytes_eq known.guid.0 guid then Some known.client else number_in guid table
+abbrev pub guid_order : Guid → Guid → Ordering
+guid_order = on (λ guid. guid.0) (slice_cmp nat_cmp)
 
-abbrev pub client_in : ℕ → List Known → Option ℕ
-client_in connection [] = None
-client_in connection (known ∷ table) = if known.connection == connection then Some known.client else client_in connection table
+abbrev pub number_in : Guid → Clients → Option ℕ
+number_in guid clients = get guid_order clients.by_guid guid
 
-abbrev pub guid_in : ℕ → List Known → Option Guid
-guid_in client [] = None
-guid_in client (known ∷ table) = if known.client == client then Some known.guid else guid_in client table
+abbrev pub client_in : ℕ → Clients → Option ℕ
+client_in connection clients = get nat_cmp clients.by_connection connection
+
+abbrev pub guid_in : ℕ → Clients → Option Guid
+guid_in client clients = get nat_cmp clients.guids client
 
 pub record KnowsClients (past : List Seen) (clients : Clients) : Type 0 where
-  pub numbers : (guid : List ℕ) → number_in guid clients.known.items ≡ first_negotiate guid past
-  pub connections : (connection : ℕ) → client_in connection clients.known.items ≡ client_of connection past
-  pub guids : (client : ℕ) → guid_in client clients.known.items ≡ guid_of client past
+  pub numbers : (guid : Guid) → number_in guid clients ≡ first_negotiate guid.0 past
+  pub connections : (connection : ℕ) → client_in connection clients ≡ client_of connection past
+  pub guids : (client : ℕ) → guid_in client clients ≡ guid_of client past

@@ -1,9 +1,13 @@
 -- Files: each of a server, and one life. Answers tell which file they are of by what it is on the server's disk, where they have
--- that, and else by a share, a name and a time at which it was made. Messages that are called past have the newest one first, and
--- so have the tables.
+-- that, and else by a share, a name and a time at which it was made. Messages that are called past have the newest one first.
 use Rattle.std.specs.Prelude.{ℕ, ◌==◌, ◌&&◌, ◌||◌, not, Bool, true, false, if◌then◌else◌, List, [], ◌∷◌, Option, Some, None}
-use Rattle.std.specs.Prelude.{unwrap_or, bytes_eq}
+use Rattle.std.specs.Prelude.{unwrap_or, bytes_eq, ◌≡◌}
+use Rattle.std.specs.BTreeMap.{BTreeMap, get, get_by}
+use Rattle.std.specs.Cmp.Lexicographic.{slice_cmp}
 use Rattle.std.specs.Option.{option_map}
+use Rattle.std.specs.Ordering.{nat_cmp, on, then_cmp}
+use Rattle.std.specs.Global.{Vec}
+use Rattle.std.specs.declared.cmp.Ordering.{Ordering}
 use Rattle.capture_wire.specs.declared.contexts.FileOnDisk.{FileOnDisk}
 use Rattle.capture_walk.specs.Trees.{path_of}
 use Rattle.capture_walk.specs.Creates.{pending}
@@ -12,8 +16,8 @@ use Rattle.capture_walk.specs.declared.note.Seen.{Seen}
 use Rattle.capture_walk.specs.declared.creates.Create.{Create}
 use Rattle.capture_walk.specs.declared.event.Remade.{Remade}
 use Rattle.capture_walk.specs.declared.files.Identity.{Identity}
-use Rattle.capture_walk.specs.declared.files.Identified.{Identified}
-use Rattle.capture_walk.specs.declared.files.Named.{Named}
+use Rattle.capture_walk.specs.declared.files.OwnPlace.{OwnPlace}
+use Rattle.capture_walk.specs.declared.files.Spot.{Spot}
 use Rattle.capture_walk.specs.declared.files.Files.{Files}
 use Rattle.capture_walk.specs.declared.files.Place as declared
 use Rattle.capture_walk.specs.declared.files.Naming.{Naming as NamingDeclared}
@@ -43,19 +47,13 @@ is_same_place one other =
     ((one.server == other.server && one.creation_time == other.creation_time) && bytes_eq (share_of one.path) (share_of other.path))
     && bytes_eq one.name other.name
 
--- a file, by its place and its number
-abbrev pub named_at : Place → ℕ → Named
-named_at place file = record {
-  server = place.server;
-  path = place.path;
-  name = place.name;
-  creation_time = place.creation_time;
-  file = file;
-}
+-- a life of a file, which begins at a place with the message of this number
+pub record Life : Type 0 where
+  pub place : Place
+  pub file : ℕ
 
-abbrev pub place_of_named : Named → Place
-place_of_named one =
-    record { server = one.server; path = one.path; name = one.name; creation_time = one.creation_time }
+abbrev pub life_of : Place → ℕ → Life
+life_of place file = record { place = place; file = file }
 
 -- a file on a disk of a server, by the time at which it was made too, since a server may give an id again once the file is gone
 abbrev pub identity_at : ℕ → ℕ → FileOnDisk → Identity
@@ -137,12 +135,12 @@ file_by is_new number None found = found
 file_by is_new number (Some place) found = Some (file_opened is_new number found)
 
 -- the life that begins with the message, if one does
-abbrev pub life_at : Place → Bool → ℕ → Option ℕ → List Named
-life_at place true number found = named_at place number ∷ []
-life_at place false number None = named_at place number ∷ []
+abbrev pub life_at : Place → Bool → ℕ → Option ℕ → List Life
+life_at place true number found = life_of place number ∷ []
+life_at place false number None = life_of place number ∷ []
 life_at place false number (Some file) = []
 
-abbrev pub life_by : Option Place → Bool → ℕ → Option ℕ → List Named
+abbrev pub life_by : Option Place → Bool → ℕ → Option ℕ → List Life
 life_by None is_new number found = []
 life_by (Some place) is_new number found = life_at place is_new number found
 
@@ -171,9 +169,9 @@ remade_in true (Some create) (Some file) = Some (record { file = file; since = c
 remade_in is_new create file = None
 
 -- the place of a file
-abbrev pub place_of_life : ℕ → List Named → Option Place
+abbrev pub place_of_life : ℕ → List Life → Option Place
 place_of_life file [] = None
-place_of_life file (one ∷ others) = if one.file == file then Some (place_of_named one) else place_of_life file others
+place_of_life file (one ∷ others) = if one.file == file then Some one.place else place_of_life file others
 
 -- ---- the tables
 
@@ -189,23 +187,71 @@ abbrev pub naming_view : NamingDeclared → Naming
 naming_view naming =
     record { place = option_map place_view naming.place; identity = naming.identity; under = naming.under }
 
-abbrev pub file_in : Place → List Named → Option ℕ
-file_in place [] = None
-file_in place (one ∷ table) = if is_same_place (place_of_named one) place then Some one.file else file_in place table
+-- ---- by their names
 
-abbrev pub identified_in : Identity → List Identified → Option ℕ
-identified_in identity [] = None
-identified_in identity (one ∷ table) = if is_same_identity one.identity identity then Some one.file else identified_in identity table
+-- what a map with bytes as its keys has at some
+abbrev pub by_bytes : {X : Type 0} → List ℕ → BTreeMap (Vec ℕ) X → Option X
+by_bytes bytes table = get_by (λ key. slice_cmp nat_cmp bytes key.items) table
+
+abbrev pub spot_of : Place → Spot
+spot_of place = record { server = place.server; creation_time = place.creation_time }
+
+abbrev pub spot_order : Spot → Spot → Ordering
+spot_order = then_cmp (on (λ spot. spot.server) nat_cmp) (on (λ spot. spot.creation_time) nat_cmp)
+
+abbrev pub is_spot : Spot → Spot → Bool
+is_spot one other = one.server == other.server && one.creation_time == other.creation_time
+
+-- of those with its name on its share
+abbrev pub at_spot : Place → Option (BTreeMap Spot ℕ) → Option ℕ
+at_spot place None = None
+at_spot place (Some spots) = get spot_order spots (spot_of place)
+
+-- of those on its share
+abbrev pub by_name : Place → Option (BTreeMap (Vec ℕ) (BTreeMap Spot ℕ)) → Option ℕ
+by_name place None = None
+by_name place (Some names) = at_spot place (by_bytes place.name names)
+
+-- the file at a place
+abbrev pub file_at : Place → Files → Option ℕ
+file_at place files = by_name place (by_bytes (share_of place.path) files.named)
+
+abbrev pub is_alike : Place → Place → Bool
+is_alike one other = is_spot (spot_of one) (spot_of other) && bytes_eq one.name other.name
+
+-- ---- by what they are on a disk
+
+abbrev pub identity_order : Identity → Identity → Ordering
+identity_order = then_cmp (on (λ one. one.server) nat_cmp)
+    (then_cmp (on (λ one. one.file) nat_cmp)
+    (then_cmp (on (λ one. one.volume) nat_cmp) (on (λ one. one.creation_time) nat_cmp)))
+
+abbrev pub file_as : Identity → Files → Option ℕ
+file_as identity files = get identity_order files.identified identity
+
+-- ---- by either
 
 -- the file at the place that is known, and with the identity
-abbrev pub found_in : Option Place → List Named → Option ℕ
-found_in None table = None
-found_in (Some place) table = file_in place table
+abbrev pub found_at : Option Place → Files → Option ℕ
+found_at None files = None
+found_at (Some place) files = file_at place files
 
-abbrev pub found_as : Option Identity → List Identified → Option ℕ
-found_as None table = None
-found_as (Some identity) table = identified_in identity table
+abbrev pub found_as : Option Identity → Files → Option ℕ
+found_as None files = None
+found_as (Some identity) files = file_as identity files
 
 abbrev pub found_by : Naming → Files → Option ℕ
-found_by naming files =
-    file_found (found_as naming.identity files.identified.items) (found_in naming.place files.named.items) naming.under
+found_by naming files = file_found (found_as naming.identity files) (found_at naming.place files) naming.under
+
+-- ---- those that began
+
+abbrev pub place_of_own : OwnPlace → Place
+place_of_own own =
+    record { server = own.server; path = own.path; name = own.name; creation_time = own.creation_time }
+
+abbrev pub place_in : ℕ → Files → Option Place
+place_in file files = option_map place_of_own (get nat_cmp files.begun file)
+
+-- Those that began have these lives.
+abbrev pub HaveBegun : List Life → Files → Type 0
+HaveBegun lives files = (file : ℕ) → place_in file files ≡ place_of_life file lives

@@ -10,7 +10,7 @@ use Rattle.capture_walk.specs.Clients.{client_of}
 use Rattle.capture_walk.specs.Creates.{pending}
 use Rattle.capture_walk.specs.Renames.{is_change}
 use Rattle.capture_walk.specs.Files.{Place, Naming, naming_given, place_given, file_found, file_by, life_by, placed, identified, remade_in}
-use Rattle.capture_walk.specs.Files.{file_in, identified_in}
+use Rattle.capture_walk.specs.Files.{Life, file_at, file_as, HaveBegun}
 use Rattle.capture_walk.specs.declared.note.Note.{Note}
 use Rattle.capture_walk.specs.declared.note.Note.TheVariants as note
 use Rattle.capture_walk.specs.declared.note.CreateGiven.{CreateGiven}
@@ -21,7 +21,6 @@ use Rattle.capture_walk.specs.declared.event.Remade.{Remade}
 use Rattle.capture_walk.specs.declared.creates.Create.{Create}
 use Rattle.capture_walk.specs.declared.files.Files.{Files}
 use Rattle.capture_walk.specs.declared.files.Identity.{Identity}
-use Rattle.capture_walk.specs.declared.files.Named.{Named}
 use Rattle.capture_walk.specs.declared.opens.Open.{Open}
 
 -- ---- leases of opens
@@ -124,7 +123,7 @@ is_left made seen one = not (ends made seen one)
 pub record Known : Type 0 where
   pub at : Place → Option ℕ
   pub on_disk : Identity → Option ℕ
-  pub begun : List Named
+  pub begun : List Life
   pub held : List Open
 
 abbrev pub at_place : Option Place → Known → Option ℕ
@@ -154,7 +153,7 @@ abbrev pub file_named : Bool → ℕ → Option Naming → Known → Option ℕ
 file_named is_new number None known = None
 file_named is_new number (Some naming) known = file_by is_new number naming.place (found naming known)
 
-abbrev pub life_named : Bool → ℕ → Option Naming → Known → List Named
+abbrev pub life_named : Bool → ℕ → Option Naming → Known → List Life
 life_named is_new number None known = []
 life_named is_new number (Some naming) known = life_by naming.place is_new number (found naming known)
 
@@ -206,7 +205,7 @@ made seen past = made_by seen (create_given seen.note) past (known past)
 abbrev pub opens : List Seen → List Open
 opens past = (known past).held
 
-abbrev pub lives : List Seen → List Named
+abbrev pub lives : List Seen → List Life
 lives past = (known past).begun
 
 -- the file at a place, by the number of the message with which its life began
@@ -228,17 +227,17 @@ remade seen past = remade_by seen (create_given seen.note) past
 -- ---- the tables
 
 pub record KnowsFiles (past : List Seen) (files : Files) : Type 0 where
-  pub files_at : (place : Place) → file_in place files.named.items ≡ file_of place past
-  pub on_disk : (identity : Identity) → identified_in identity files.identified.items ≡ (known past).on_disk identity
-  pub begun : files.begun.items ≡ lives past
+  pub files_at : (place : Place) → file_at place files ≡ file_of place past
+  pub on_disk : (identity : Identity) → file_as identity files ≡ (known past).on_disk identity
+  pub begun : HaveBegun (lives past) files
 
 -- They know what the messages before knew, and the file of a CREATE response.
 pub record AreKnownAfter (seen : Seen) (given : CreateGiven) (past : List Seen) (files : Files) : Type 0 where
-  pub files_at : (place : Place) → file_in place files.named.items
+  pub files_at : (place : Place) → file_at place files
       ≡ placed place (place_named (naming seen given past (known past)))
       (file_named given.is_new seen.number (naming seen given past (known past)) (known past)) (file_of place past)
-  pub on_disk : (identity : Identity) → identified_in identity files.identified.items
+  pub on_disk : (identity : Identity) → file_as identity files
       ≡ identified identity (identity_named (naming seen given past (known past)))
       (file_named given.is_new seen.number (naming seen given past (known past)) (known past)) ((known past).on_disk identity)
-  pub begun : files.begun.items
-      ≡ life_named given.is_new seen.number (naming seen given past (known past)) (known past) ++ lives past
+  pub begun : HaveBegun
+      (life_named given.is_new seen.number (naming seen given past (known past)) (known past) ++ lives past) files

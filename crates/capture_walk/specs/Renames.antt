@@ -1,7 +1,9 @@
 -- When names of files may come to lead to other files. Messages that are called past have the newest one first.
 use Rattle.std.specs.Prelude.{◌≡◌, ℕ, ◌==◌, ◌&&◌, ◌||◌, Bool, false, List, [], ◌∷◌, Option, Some, None}
 use Rattle.std.specs.Option.{is_some}
-use Rattle.std.specs.List.{list_any}
+use Rattle.std.specs.Ordering.{nat_cmp, on, then_cmp}
+use Rattle.std.specs.BTreeSet.{contains}
+use Rattle.std.specs.declared.cmp.Ordering.{Ordering}
 use Rattle.capture_walk.specs.Notes.{rename_asked, answered, is_gap}
 use Rattle.capture_walk.specs.declared.note.Seen.{Seen}
 use Rattle.capture_walk.specs.declared.renames.Renaming.{Renaming}
@@ -32,8 +34,14 @@ is_change seen past =
 
 -- ---- the table
 
-abbrev pub is_renaming : ℕ → ℕ → Renaming → Bool
-is_renaming connection id one = one.connection == connection && one.id == id
+abbrev pub renaming_order : Renaming → Renaming → Ordering
+renaming_order = then_cmp (on (λ one. one.connection) nat_cmp) (on (λ one. one.id) nat_cmp)
+
+abbrev pub renaming_at : ℕ → ℕ → Renaming
+renaming_at connection id = record { connection = connection; id = id }
+
+abbrev pub has_asked : ℕ → ℕ → Renames → Bool
+has_asked connection id renames = contains renaming_order renames.asked (renaming_at connection id)
 
 pub record KnowsRenames (past : List Seen) (renames : Renames) : Type 0 where
-  pub asked : (connection id : ℕ) → list_any (is_renaming connection id) renames.asked.items ≡ was_rename connection id past
+  pub asked : (connection id : ℕ) → has_asked connection id renames ≡ was_rename connection id past

@@ -1,5 +1,8 @@
--- The paths of tree connects. Messages that are called past have the newest one first, and so have tables.
+-- The paths of tree connects. Messages that are called past have the newest one first.
 use Rattle.std.specs.Prelude.{◌≡◌, ℕ, ◌==◌, ◌&&◌, if◌then◌else◌, List, [], ◌∷◌, Option, Some, None}
+use Rattle.std.specs.BTreeMap.{get}
+use Rattle.std.specs.Ordering.{nat_cmp, on, then_cmp}
+use Rattle.std.specs.declared.cmp.Ordering.{Ordering}
 use Rattle.capture_walk.specs.Notes.{tree_asked, tree_given}
 use Rattle.capture_walk.specs.declared.note.TreeAsked.{TreeAsked}
 use Rattle.capture_walk.specs.declared.note.TreeGiven.{TreeGiven}
@@ -34,17 +37,30 @@ path_of server session tree (seen ∷ past) =
 
 -- ---- the tables
 
-abbrev pub asked_in : ℕ → ℕ → List Asked → Option (List ℕ)
-asked_in connection id [] = None
-asked_in connection id (one ∷ table) =
-    if one.connection == connection && one.id == id then Some one.path else asked_in connection id table
+abbrev pub asked_order : Asked → Asked → Ordering
+asked_order = then_cmp (on (λ one. one.connection) nat_cmp) (on (λ one. one.id) nat_cmp)
 
-abbrev pub tree_in : ℕ → ℕ → ℕ → List Tree → Option (List ℕ)
-tree_in server session tree [] = None
-tree_in server session tree (one ∷ table) =
-    if (one.server == server && one.session == session) && one.tree == tree then one.path
-    else tree_in server session tree table
+abbrev pub tree_order : Tree → Tree → Ordering
+tree_order = then_cmp (on (λ one. one.server) nat_cmp)
+    (then_cmp (on (λ one. one.session) nat_cmp) (on (λ one. one.tree) nat_cmp))
+
+abbrev pub asked_at : ℕ → ℕ → Asked
+asked_at connection id = record { connection = connection; id = id }
+
+abbrev pub tree_at : ℕ → ℕ → ℕ → Tree
+tree_at server session tree = record { server = server; session = session; tree = tree }
+
+abbrev pub asked_in : ℕ → ℕ → Trees → Option (List ℕ)
+asked_in connection id trees = get asked_order trees.asked (asked_at connection id)
+
+-- nothing where there is no such tree connect, or its request wasn't seen
+abbrev pub path_or_none : Option (Option (List ℕ)) → Option (List ℕ)
+path_or_none None = None
+path_or_none (Some path) = path
+
+abbrev pub tree_in : ℕ → ℕ → ℕ → Trees → Option (List ℕ)
+tree_in server session tree trees = path_or_none (get tree_order trees.trees (tree_at server session tree))
 
 pub record KnowsTrees (past : List Seen) (trees : Trees) : Type 0 where
-  pub asked : (connection id : ℕ) → asked_in connection id trees.asked.items ≡ path_asked connection id past
-  pub connected : (server session tree : ℕ) → tree_in server session tree trees.trees.items ≡ path_of server session tree past
+  pub asked : (connection id : ℕ) → asked_in connection id trees ≡ path_asked connection id past
+  pub connected : (server session tree : ℕ) → tree_in server session tree trees ≡ path_of server session tree past

@@ -1,7 +1,8 @@
 ghost use Rattle.std.specs.Prelude.{◌++◌, ◌≡◌, ◌==◌, ◌&&◌, ◌∷◌, [], if◌then◌else◌, Some, None, List, OnOk, IfOk, unwrap_or};
-ghost use Rattle.capture_walk.specs.Files.{file_in, identified_in, life_at, life_by, place_of_life, named_at, file_by};
-ghost use Rattle.capture_walk.specs.Files.{is_same_place, is_same_identity, place_view, naming_view, share_of, file_found, placed_at, placed, identified_as, identified};
-ghost use Rattle.capture_walk.specs.Files.{found_in, found_as, found_by};
+ghost use Rattle.capture_walk.specs.Files.{file_at, file_as, life_at, life_by, life_of, place_in, file_by, share_of, file_found};
+ghost use Rattle.capture_walk.specs.Files.{is_alike, at_spot, by_name, spot_of, place_of_own, place_view, naming_view};
+ghost use Rattle.capture_walk.specs.Files.{placed_at, placed, identified_as, identified};
+ghost use Rattle.capture_walk.specs.Files.{found_at, found_as, found_by, Life, HaveBegun};
 ghost use Rattle.capture_walk.specs.Files as places;
 ghost use Rattle.capture_walk.specs.Opens.{KnowsFiles};
 ghost use Rattle.std.specs.Option.{option_map};
@@ -12,6 +13,7 @@ ghost use Rattle.capture_walk.specs.declared.note.Seen.{Seen};
 use crate::note::Seen;
 use lease_state::{Bytes, Memory};
 use std::alloc::Global;
+use std::collections::BTreeMap;
 
 /// Where a file is.
 #[derive(Clone, Copy, Debug)]
@@ -26,18 +28,51 @@ pub struct Place<'a> {
     pub creation_time: u64,
 }
 
-// The file at a place.
+// A place, with memory of its own.
 #[derive(Debug, Drop)]
-pub(crate) struct Named {
+pub(crate) struct OwnPlace {
     server: u64,
     path: Bytes,
     name: Bytes,
     creation_time: u64,
-    file: u64,
 }
 
+impl OwnPlace {
+    fn new(alloc: Global, place: Place<'_>) -> Result<OwnPlace, Memory>
+        ensures { IfOk result (λ own. place_of_own own ≡ place_view place.entry) }
+    {
+        Ok(OwnPlace {
+            server: place.server,
+            path: Bytes::new(Vec::from_slice(alloc, place.path)?),
+            name: Bytes::new(Vec::from_slice(alloc, place.name)?),
+            creation_time: place.creation_time,
+        })
+    }
+
+    fn place(&self) -> Place<'_>
+        ensures { place_view result ≡ place_of_own self.now }
+    {
+        Place {
+            server: self.server,
+            path: self.path.as_slice(),
+            name: self.name.as_slice(),
+            creation_time: self.creation_time,
+        }
+    }
+}
+
+/// What tells files of one name on one share apart.
+#[derive(Clone, Copy, Debug, PartialEq, Eq, PartialOrd, Ord)]
+pub(crate) struct Spot {
+    server: u64,
+    creation_time: u64,
+}
+
+// Files on a share, by their names.
+type Names = BTreeMap<Vec<u8>, BTreeMap<Spot, u64>>;
+
 /// A file on a disk of a server.
-#[derive(Clone, Copy, Debug)]
+#[derive(Clone, Copy, Debug, PartialEq, Eq, PartialOrd, Ord)]
 pub(crate) struct Identity {
     pub(crate) server: u64,
     // DiskFileId and VolumeId
@@ -45,23 +80,6 @@ pub(crate) struct Identity {
     pub(crate) volume: u64,
     // A server may give an id again once a file is gone.
     pub(crate) creation_time: u64,
-}
-
-impl Identity {
-    fn is(self, other: Identity) -> bool
-        ensures { result ≡ is_same_identity self other }
-    {
-        self.server == other.server
-            && self.creation_time == other.creation_time
-            && (self.file == other.file && self.volume == other.volume)
-    }
-}
-
-// The file that has an identity.
-#[derive(Clone, Copy, Debug)]
-pub(crate) struct Identified {
-    identity: Identity,
-    file: u64,
 }
 
 /// What a CREATE response's file is known by.
@@ -77,24 +95,13 @@ pub(crate) struct Naming<'a> {
 /// The files that are known, with the numbers of the messages with which their lives began.
 #[derive(Debug, Drop)]
 pub(crate) struct Files {
-    // Those that are known by their names. The newest first, as in the other lists.
-    named: Vec<Named>,
+    alloc: Global,
+    // Those that are known by their names, by what names their shares.
+    named: BTreeMap<Vec<u8>, Names>,
     // Those of which it is known what they are on a disk.
-    identified: Vec<Identified>,
-    // All.
-    begun: Vec<Named>,
-}
-
-fn named_at(alloc: Global, place: Place<'_>, file: u64) -> Result<Named, Memory>
-    ensures { IfOk result (λ named. named ≡ named_at (place_view place.entry) file) }
-{
-    Ok(Named {
-        server: place.server,
-        path: Bytes::new(Vec::from_slice(alloc, place.path)?),
-        name: Bytes::new(Vec::from_slice(alloc, place.name)?),
-        creation_time: place.creation_time,
-        file,
-    })
+    identified: BTreeMap<Identity, u64>,
+    // The places at which all began, by their numbers.
+    begun: BTreeMap<u64, OwnPlace>,
 }
 
 // What stands behind a unit, where that is a backslash, else what stands behind the last one before it.
@@ -122,55 +129,89 @@ fn share_of(path: &[u8]) -> &[u8]
     share
 }
 
+fn spot_of(place: Place<'_>) -> Spot
+    ensures { result ≡ spot_of (place_view place.entry) }
+{
+    Spot {
+        server: place.server,
+        creation_time: place.creation_time,
+    }
+}
+
+fn find_spot(spots: &BTreeMap<Spot, u64>, place: Place<'_>) -> Option<u64>
+    ensures { result ≡ at_spot (place_view place.entry) (Some spots.now) }
+{
+    match spots.get(&spot_of(place)) {
+        Some(file) => Some(*file),
+        None => None,
+    }
+}
+
+// The file at a place, by the names on its share.
+fn find_name(names: &Names, place: Place<'_>) -> Option<u64>
+    ensures { result ≡ by_name (place_view place.entry) (Some names.now) }
+{
+    match names.get(place.name) {
+        Some(spots) => find_spot(spots, place),
+        None => None,
+    }
+}
+
+// From here on a place leads to a file, by the names on its share.
+fn put_name(alloc: Global, names: &mut Names, place: Place<'_>, file: u64) -> Result<(), Memory>
+    ensures { OnOk result ((other : places.Place) → by_name other (Some names.new)
+        ≡ (if is_alike (place_view place.entry) other then Some file else by_name other (Some names.old))) }
+{
+    let spot = spot_of(place);
+    match names.get_mut(place.name) {
+        Some(spots) => {
+            spots.insert(spot, file)?;
+        }
+        None => {
+            let mut spots = BTreeMap::new(alloc);
+            spots.insert(spot, file)?;
+            names.insert(Vec::from_slice(alloc, place.name)?, spots)?;
+        }
+    }
+    Ok(())
+}
+
 impl Files {
     /// None. Allocates nothing.
     pub(crate) fn new(alloc: Global) -> Files
         ensures { KnowsFiles [] result }
     {
         Files {
-            named: Vec::new(alloc),
-            identified: Vec::new(alloc),
-            begun: Vec::new(alloc),
+            alloc,
+            named: BTreeMap::new(alloc),
+            identified: BTreeMap::new(alloc),
+            begun: BTreeMap::new(alloc),
         }
     }
 
     /// The file at a place.
     pub(crate) fn find(&self, place: Place<'_>) -> Option<u64>
-        ensures { result ≡ file_in (place_view place.entry) self.now.named.items }
+        ensures { result ≡ file_at (place_view place.entry) self.now }
     {
-        for one in &self.named {
-            if one.server == place.server
-                && one.creation_time == place.creation_time
-                && share_of(one.path.as_slice()) == share_of(place.path)
-                && one.name.as_slice() == place.name
-            {
-                return Some(one.file);
-            }
+        match self.named.get(share_of(place.path)) {
+            Some(names) => find_name(names, place),
+            None => None,
         }
-        None
-    }
-
-    fn find_identified(&self, identity: Identity) -> Option<u64>
-        ensures { result ≡ identified_in identity self.now.identified.items }
-    {
-        for one in &self.identified {
-            if one.identity.is(identity) {
-                return Some(one.file);
-            }
-        }
-        None
     }
 
     fn find_at(&self, place: Option<Place<'_>>) -> Option<u64>
-        ensures { result ≡ found_in (option_map place_view place.entry) self.now.named.items }
+        ensures { result ≡ found_at (option_map place_view place.entry) self.now }
     {
         self.find(place?)
     }
 
     fn find_as(&self, identity: Option<Identity>) -> Option<u64>
-        ensures { result ≡ found_as identity self.now.identified.items }
+        ensures { result ≡ found_as identity self.now }
     {
-        self.find_identified(identity?)
+        match self.identified.get(&identity?) {
+            Some(file) => Some(*file),
+            None => None,
+        }
     }
 
     // The file that is known by this.
@@ -187,43 +228,44 @@ impl Files {
     }
 
     fn begin(&mut self, place: Place<'_>, file: u64) -> Result<(), Memory>
-        ensures begun { OnOk result (self.new.begun.items ≡ named_at (place_view place.entry) file ∷ self.old.begun.items) }
+        ensures begun { OnOk result ((lives : List Life) → HaveBegun lives self.old
+            → HaveBegun (life_of (place_view place.entry) file ∷ lives) self.new) }
         ensures named { OnOk result (self.new.named ≡ self.old.named) }
         ensures identified { OnOk result (self.new.identified ≡ self.old.identified) }
     {
-        let named = named_at(*self.begun.allocator(), place, file)?;
-        self.begun.insert(0, named)?;
+        let own = OwnPlace::new(self.alloc, place)?;
+        self.begun.insert(file, own)?;
         Ok(())
     }
 
     // From here on the place leads to the file.
-    #[tactic(auto, using(crate::proofs::Places::found_same))]
     fn place(&mut self, place: Place<'_>, file: u64) -> Result<(), Memory>
-        ensures named { OnOk result ((other : places.Place) → file_in other self.new.named.items
-            ≡ placed_at other (place_view place.entry) file (file_in other self.old.named.items)) }
+        ensures named { OnOk result ((other : places.Place) → file_at other self.new
+            ≡ placed_at other (place_view place.entry) file (file_at other self.old)) }
         ensures identified { OnOk result (self.new.identified ≡ self.old.identified) }
         ensures begun { OnOk result (self.new.begun ≡ self.old.begun) }
     {
-        if self.find(place) == Some(file) {
-            return Ok(());
+        let alloc = self.alloc;
+        let share = share_of(place.path);
+        match self.named.get_mut(share) {
+            Some(names) => put_name(alloc, names, place, file)?,
+            None => {
+                let mut names = BTreeMap::new(alloc);
+                put_name(alloc, &mut names, place, file)?;
+                self.named.insert(Vec::from_slice(alloc, share)?, names)?;
+            }
         }
-        let named = named_at(*self.named.allocator(), place, file)?;
-        self.named.insert(0, named)?;
         Ok(())
     }
 
     // From here on the identity is the file's.
-    #[tactic(auto, using(crate::proofs::Places::identified_same))]
     fn identify(&mut self, identity: Identity, file: u64) -> Result<(), Memory>
-        ensures identified { OnOk result ((other : Identity) → identified_in other self.new.identified.items
-            ≡ identified_as other identity file (identified_in other self.old.identified.items)) }
+        ensures identified { OnOk result ((other : Identity) → file_as other self.new
+            ≡ identified_as other identity file (file_as other self.old)) }
         ensures named { OnOk result (self.new.named ≡ self.old.named) }
         ensures begun { OnOk result (self.new.begun ≡ self.old.begun) }
     {
-        if self.find_identified(identity) == Some(file) {
-            return Ok(());
-        }
-        self.identified.insert(0, Identified { identity, file })?;
+        self.identified.insert(identity, file)?;
         Ok(())
     }
 
@@ -235,8 +277,8 @@ impl Files {
         number: u64,
         found: Option<u64>,
     ) -> Result<(), Memory>
-        ensures begun { OnOk result (self.new.begun.items
-            ≡ life_by (option_map place_view place.entry) is_new number found ++ self.old.begun.items) }
+        ensures begun { OnOk result ((lives : List Life) → HaveBegun lives self.old
+            → HaveBegun (life_by (option_map place_view place.entry) is_new number found ++ lives) self.new) }
         ensures named { OnOk result (self.new.named ≡ self.old.named) }
         ensures identified { OnOk result (self.new.identified ≡ self.old.identified) }
     {
@@ -248,10 +290,10 @@ impl Files {
 
     // What leads to the file from here on.
     fn lead_to(&mut self, naming: Naming<'_>, file: Option<u64>) -> Result<(), Memory>
-        ensures named { OnOk result ((other : places.Place) → file_in other self.new.named.items
-            ≡ placed other (naming_view naming.entry).place file (file_in other self.old.named.items)) }
-        ensures identified { OnOk result ((other : Identity) → identified_in other self.new.identified.items
-            ≡ identified other (naming_view naming.entry).identity file (identified_in other self.old.identified.items)) }
+        ensures named { OnOk result ((other : places.Place) → file_at other self.new
+            ≡ placed other (naming_view naming.entry).place file (file_at other self.old)) }
+        ensures identified { OnOk result ((other : Identity) → file_as other self.new
+            ≡ identified other (naming_view naming.entry).identity file (file_as other self.old)) }
         ensures begun { OnOk result (self.new.begun ≡ self.old.begun) }
     {
         let Some(file) = file else {
@@ -276,17 +318,16 @@ impl Files {
     ) -> Result<Option<u64>, Memory>
         ensures file { IfOk result (λ file. file ≡ file_by is_new number (naming_view naming.entry).place
             (found_by (naming_view naming.entry) self.old)) }
-        ensures named { OnOk result ((other : places.Place) → file_in other self.new.named.items
+        ensures named { OnOk result ((other : places.Place) → file_at other self.new
             ≡ placed other (naming_view naming.entry).place
             (file_by is_new number (naming_view naming.entry).place (found_by (naming_view naming.entry) self.old))
-            (file_in other self.old.named.items)) }
-        ensures identified { OnOk result ((other : Identity) → identified_in other self.new.identified.items
+            (file_at other self.old)) }
+        ensures identified { OnOk result ((other : Identity) → file_as other self.new
             ≡ identified other (naming_view naming.entry).identity
             (file_by is_new number (naming_view naming.entry).place (found_by (naming_view naming.entry) self.old))
-            (identified_in other self.old.identified.items)) }
-        ensures begun { OnOk result (self.new.begun.items
-            ≡ life_by (naming_view naming.entry).place is_new number (found_by (naming_view naming.entry) self.old)
-            ++ self.old.begun.items) }
+            (file_as other self.old)) }
+        ensures begun { OnOk result ((lives : List Life) → HaveBegun lives self.old → HaveBegun (life_by
+            (naming_view naming.entry).place is_new number (found_by (naming_view naming.entry) self.old) ++ lives) self.new) }
     {
         let found = self.find_by(naming);
         let file = match naming.place {
@@ -300,11 +341,10 @@ impl Files {
     }
 
     /// Takes note of a message that is no CREATE response, and after which names may lead to other files or not.
+    #[tactic(auto, using(crate::proofs::Places::known_left))]
     pub(crate) fn note_change(&mut self, is_change: bool)
-        ensures named { (other : places.Place) → file_in other self.new.named.items
-            ≡ (if is_change then None else file_in other self.old.named.items) }
-        ensures identified { self.new.identified ≡ self.old.identified }
-        ensures begun { self.new.begun ≡ self.old.begun }
+        ensures { (seen : Seen) (past : List Seen) → create_given seen.note ≡ None → is_change ≡ renames.is_change seen past
+            → KnowsFiles past self.old → KnowsFiles (seen ∷ past) self.new }
     {
         if is_change {
             self.named.clear();
@@ -313,18 +353,11 @@ impl Files {
 
     /// Where a file is that began, by its number.
     pub(crate) fn place_of(&self, file: u64) -> Option<Place<'_>>
-        ensures { option_map place_view result ≡ place_of_life file self.now.begun.items }
+        ensures { option_map place_view result ≡ place_in file self.now }
     {
-        for one in &self.begun {
-            if one.file == file {
-                return Some(Place {
-                    server: one.server,
-                    path: one.path.as_slice(),
-                    name: one.name.as_slice(),
-                    creation_time: one.creation_time,
-                });
-            }
+        match self.begun.get(&file) {
+            Some(one) => Some(one.place()),
+            None => None,
         }
-        None
     }
 }

@@ -1,15 +1,15 @@
 ghost use Rattle.std.specs.Prelude.{◌≡◌, ◌∷◌, [], List, OnOk};
-ghost use Rattle.capture_walk.specs.Renames.{KnowsRenames, answers_rename, is_change, is_renaming};
-ghost use Rattle.std.specs.List.{list_any};
+ghost use Rattle.capture_walk.specs.Renames.{KnowsRenames, answers_rename, has_asked, is_change};
 ghost use Rattle.capture_walk.specs.Notes.{answered};
 ghost use Rattle.capture_walk.specs.declared.note.Seen.{Seen};
 
 use crate::note::Seen;
 use lease_state::Memory;
 use std::alloc::Global;
+use std::collections::BTreeSet;
 
 // A request that changes names.
-#[derive(Clone, Copy, Debug)]
+#[derive(Clone, Copy, Debug, PartialEq, Eq, PartialOrd, Ord)]
 pub(crate) struct Renaming {
     connection: u64,
     id: u64,
@@ -18,8 +18,7 @@ pub(crate) struct Renaming {
 /// The requests that change names.
 #[derive(Debug, Drop)]
 pub(crate) struct Renames {
-    // The newest first.
-    asked: Vec<Renaming>,
+    asked: BTreeSet<Renaming>,
 }
 
 impl Renames {
@@ -28,17 +27,15 @@ impl Renames {
         ensures { KnowsRenames [] result }
     {
         Renames {
-            asked: Vec::new(alloc),
+            asked: BTreeSet::new(alloc),
         }
     }
 
     // Whether a request on a connection with this MessageId changes names.
     fn has(&self, connection: u64, id: u64) -> bool
-        ensures { result ≡ list_any (is_renaming connection id) self.now.asked.items }
+        ensures { result ≡ has_asked connection id self.now }
     {
-        self.asked
-            .iter()
-            .any(|one| one.connection == connection && one.id == id)
+        self.asked.contains(&Renaming { connection, id })
     }
 
     // Whether the message answers such a request.
@@ -65,7 +62,7 @@ impl Renames {
     {
         if let Some(id) = seen.note.rename_asked() {
             let connection = seen.connection;
-            self.asked.insert(0, Renaming { connection, id })?;
+            self.asked.insert(Renaming { connection, id })?;
         }
         Ok(())
     }

@@ -3,6 +3,7 @@
 use crate::alloc::{AllocFailed, Global};
 use crate::boxed::Box;
 use arrayvec::ArrayVec;
+use core::borrow::Borrow;
 use core::cmp::Ordering;
 use core::{fmt, mem};
 
@@ -162,9 +163,12 @@ impl<K, V> Node<K, V> {
 impl<K: Ord, V> Node<K, V> {
     // Where the key is, or where it would be.
     #[inline]
-    fn place_of(&self, key: &K) -> Result<usize, usize> {
+    fn place_of<Q: Ord + ?Sized>(&self, key: &Q) -> Result<usize, usize>
+    where
+        K: Borrow<Q>,
+    {
         for (at, one) in self.keys.iter().enumerate() {
-            match key.cmp(one) {
+            match key.cmp(one.borrow()) {
                 Ordering::Less => return Err(at),
                 Ordering::Equal => return Ok(at),
                 Ordering::Greater => (),
@@ -271,7 +275,10 @@ impl<K, V> BTreeMap<K, V> {
 
 impl<K: Ord, V> BTreeMap<K, V> {
     /// The key's value.
-    pub fn get(&self, key: &K) -> Option<&V> {
+    pub fn get<Q: Ord + ?Sized>(&self, key: &Q) -> Option<&V>
+    where
+        K: Borrow<Q>,
+    {
         let mut node = self.root.as_deref()?;
         loop {
             match node.place_of(key) {
@@ -282,7 +289,10 @@ impl<K: Ord, V> BTreeMap<K, V> {
     }
 
     /// The key's value, to be changed.
-    pub fn get_mut(&mut self, key: &K) -> Option<&mut V> {
+    pub fn get_mut<Q: Ord + ?Sized>(&mut self, key: &Q) -> Option<&mut V>
+    where
+        K: Borrow<Q>,
+    {
         let mut node = self.root.as_deref_mut()?;
         loop {
             match node.place_of(key) {

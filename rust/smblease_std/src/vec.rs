@@ -1,6 +1,7 @@
 use crate::alloc::{AllocError, AllocFailed, Global};
 use crate::sorting;
 use core::alloc::Layout;
+use core::borrow::Borrow;
 use core::fmt;
 use core::ops::{Deref, DerefMut, RangeBounds};
 use rust_alloc::vec::{Drain, IntoIter, Vec as Inner};
@@ -245,6 +246,12 @@ impl<'a, T> IntoIterator for &'a mut Vec<T> {
 
     fn into_iter(self) -> core::slice::IterMut<'a, T> {
         self.0.iter_mut()
+    }
+}
+
+impl<T> Borrow<[T]> for Vec<T> {
+    fn borrow(&self) -> &[T] {
+        &self.0
     }
 }
 
