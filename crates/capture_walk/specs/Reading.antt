@@ -174,10 +174,15 @@ tree_note header (TreeId tree) =
     note.TreeGiven (record { id = header.message_id; session = header.session_id; tree = tree })
 tree_note header (AsyncId async) = note.Gap
 
--- The server has no such session (USER_SESSION_DELETED, MS-SMB2 3.3.5.2.9), no such tree connect (NETWORK_NAME_DELETED, 3.3.5.2.11)
--- or no such open (FILE_CLOSED, as 3.3.5.12 has it for READ): it may have ended any of these by itself.
+-- The server has no such session (USER_SESSION_DELETED, MS-SMB2 3.3.5.2.9), no such tree connect (NETWORK_NAME_DELETED,
+-- 3.3.5.2.11) or no such open (FILE_CLOSED, as 3.3.5.12 has it for READ): it may have ended any of these by itself.
 abbrev pub is_gone : ℕ → Bool
 is_gone status = status == 3221225987 || (status == 3221225673 || status == 3221225768)
+
+-- The server did what the request asks. A READ from the end of a file on gives no bytes (END_OF_FILE), and is of an open that
+-- is there (3.3.5.12).
+abbrev pub is_done : Header → Bool
+is_done header = header.status == 0 || (header.command == 8 && header.status == 3221225489)
 
 -- a response that nothing was read of: that of TREE_CONNECT counts where it is of STATUS_SUCCESS, and one of STATUS_PENDING is
 -- not for good
@@ -185,7 +190,7 @@ abbrev pub other_note : Header → Note
 other_note header =
     if header.status == 259 then note.Other
     else if header.command == 3 && header.status == 0 then tree_note header header.tree_or_async
-    else if header.status == 0 then note.Done header.message_id
+    else if is_done header then note.Done header.message_id
     else if is_gone header.status then note.Gone header.message_id
     else note.Answered header.message_id
 
