@@ -16,7 +16,8 @@ at-place files [] [] k d all inside = absurd (omega (arith, inside))
 at-place files [] (file ∷ chosen) k d all inside = absurd all
 at-place files (place ∷ places) [] k d all inside = absurd all
 at-place files (place ∷ places) (file ∷ chosen) zero d all inside = (file, all.0)
-at-place files (place ∷ places) (file ∷ chosen) (suc k) d all inside = at-place files places chosen k d all.1 (omega (arith, inside))
+at-place files (place ∷ places) (file ∷ chosen) (suc k) d all inside =
+    at-place files places chosen k d all.1 (omega (arith, inside))
 
 pub same-length : (files : List FileFinding) (places : List ℕ) (chosen : List FileFinding) → AllZip (IsAt files) places chosen
     → length chosen ≡ length places
@@ -29,7 +30,8 @@ later : (files : List FileFinding) (clients : List ℕ) (n : ℕ) (places : List
     (file : FileFinding) → AllZip (IsAt files) places chosen → k < length places
     → slice_get files (slice_index_or places k d) ≡ Some file
     → changes_after clients n (take (suc k) chosen) places
-    ≡ changes_after clients n (take k chosen) places ++ changes_in clients (n + k + 1) (slice_index_or places k d) 0 file.beliefs.items
+    ≡ changes_after clients n (take k chosen) places
+    ++ changes_in clients (n + k + 1) (slice_index_or places k d) 0 file.beliefs.items
 later files clients n [] [] k d file all inside at = absurd (omega (arith, inside))
 later files clients n [] (one ∷ chosen) k d file all inside at = absurd all
 later files clients n (place ∷ places) [] k d file all inside at = absurd all

@@ -97,7 +97,8 @@ by-held believed judged.Safe so is = absurd (neither (is_safe believed) judged.S
 by-held believed judged.Contradictory so is = absurd (neither (is_safe believed) judged.Contradictory believed refl so is)
 by-held believed judged.TooMany so is = absurd (neither (is_safe believed) judged.TooMany believed refl so is)
 
-either : (believed held : Judged) → is_unsafe (joined believed held) ≡ true → (is_unsafe believed ≡ true) ⊎ (is_unsafe held ≡ true)
+either : (believed held : Judged) → is_unsafe (joined believed held) ≡ true
+    → (is_unsafe believed ≡ true) ⊎ (is_unsafe held ≡ true)
 either (judged.Unsafe clash) held is = inl refl
 either (judged.Granted clash) held is = inl refl
 either judged.NoClient held is = inr (by-held judged.NoClient held refl is)
@@ -110,7 +111,8 @@ picked : (b : Bool) (believed held : Judged) → is_safe believed ≡ b → is_s
 picked true believed held same is = (same, is)
 picked false believed held same is = absurd (cc (sym same ∙ is))
 
-safe-held : (believed held : Judged) → is_safe (with_held believed held) ≡ true → (is_safe believed ≡ true) × (is_safe held ≡ true)
+safe-held : (believed held : Judged) → is_safe (with_held believed held) ≡ true
+    → (is_safe believed ≡ true) × (is_safe held ≡ true)
 safe-held believed (judged.Unsafe clash) is = absurd (cc is)
 safe-held believed (judged.Granted clash) is = picked (is_safe believed) believed (judged.Granted clash) refl is
 safe-held believed judged.NoClient is = picked (is_safe believed) believed judged.NoClient refl is

@@ -34,8 +34,8 @@ pub record HasChains (kind : Showing) (at : Side) (past : List Line) (file : ℕ
   pub among : IsAmong file (files_in (events seen))
   pub are : map shown chains ≡ kind file (events seen)
 
--- A capture is said to be unsafe only where a file is: the changes of what its clients cache, or of what the server holds for them,
--- can be placed within their bounds, and wherever they are, two clients clash.
+-- A capture is said to be unsafe only where a file is: the changes of what its clients cache, or of what the server holds for
+-- them, can be placed within their bounds, and wherever they are, two clients clash.
 abbrev pub UnsafeIsOfAFile : Type 0
 UnsafeIsOfAFile = (at : Side) (past : List Line) (report : Report) → IsReport at past report
     → verdict_of report.files.items ≡ verdict.Unsafe

@@ -10,6 +10,7 @@ ghost use Rattle.capture_texts.specs.declared.line.Line.{Line};
 ghost use Rattle.capture_walk.specs.Chains.{files_in};
 ghost use Rattle.capture_walk.specs.Events.{events};
 ghost use Rattle.capture_walk.specs.Files.{place_view};
+ghost use Rattle.capture_walk.specs.Index.{IsIndex};
 ghost use Rattle.capture_walk.specs.declared.note.Seen.{Seen};
 
 use crate::capture::{Capture, Kept};
@@ -20,8 +21,8 @@ use crate::finding::{
 use crate::line::Moment;
 use capture_judge::{Chain, Level, Placing, Step, judge_placing, levels_after};
 use capture_walk::{
-    Acknowledged, Break, Event, LeaseTold, Loss, Misnumbered, Place, chains_on, files_in,
-    leases_told, tables_on,
+    Acknowledged, Break, Event, Index, LeaseTold, Loss, Misnumbered, Place, chains_on, leases_told,
+    tables_on,
 };
 use lease_state::{Bytes, Memory};
 use std::alloc::Global;
@@ -301,14 +302,16 @@ impl Capture {
     fn leases_until(
         &self,
         alloc: Global,
+        index: &Index,
         file: u64,
         position: u64,
     ) -> Result<Vec<LeaseFinding>, Memory>
+        requires { IsIndex self.now.walking.walk.events.items index.now }
         ensures { IfOk result (λ findings. (past : List Line) (seen : List Seen) → HasSeen past seen self.now
             → AreLeasesFound past seen (told_until file (events seen) (Some position)) findings.items) }
     {
         let mut findings = Vec::new(alloc);
-        for told in &leases_told(alloc, file, position, self.walking.walk.events())? {
+        for told in &leases_told(alloc, file, position, self.walking.walk.events(), index)? {
             findings.push(self.lease_finding(alloc, told)?)?;
         }
         Ok(findings)
@@ -318,31 +321,34 @@ impl Capture {
     fn lease_findings(
         &self,
         alloc: Global,
+        index: &Index,
         file: u64,
         until: Option<u64>,
     ) -> Result<Vec<LeaseFinding>, Memory>
+        requires { IsIndex self.now.walking.walk.events.items index.now }
         ensures { IfOk result (λ findings. (past : List Line) (seen : List Seen) → HasSeen past seen self.now
             → AreLeasesFound past seen (told_until file (events seen) until) findings.items) }
     {
         match until {
-            Some(position) => self.leases_until(alloc, file, position),
+            Some(position) => self.leases_until(alloc, index, file, position),
             None => Ok(Vec::new(alloc)),
         }
     }
 
     // What is found of a file.
-    fn file_finding(&self, alloc: Global, file: u64) -> Result<FileFinding, Memory>
+    fn file_finding(&self, alloc: Global, index: &Index, file: u64) -> Result<FileFinding, Memory>
+        requires { IsIndex self.now.walking.walk.events.items index.now }
         ensures { IfOk result (λ finding. (past : List Line) (seen : List Seen) → HasSeen past seen self.now
             → IsFound past seen file finding) }
     {
-        let chains = chains_on(alloc, file, self.walking.walk.events())?;
-        let tables = tables_on(alloc, file, self.walking.walk.events())?;
+        let chains = chains_on(alloc, file, self.walking.walk.events(), index)?;
+        let tables = tables_on(alloc, file, self.walking.walk.events(), index)?;
         let place = match self.walking.walk.place_of(file) {
             Some(place) => Some(self.file_place(alloc, place)?),
             None => None,
         };
         let (judged, beliefs) = judge_both(alloc, &chains, &tables, &self.kept)?;
-        let leases = self.lease_findings(alloc, file, judged.until())?;
+        let leases = self.lease_findings(alloc, index, file, judged.until())?;
         Ok(FileFinding {
             file,
             place,
@@ -353,15 +359,24 @@ impl Capture {
         })
     }
 
-    fn file_findings(&self, alloc: Global) -> Result<Vec<FileFinding>, Memory>
+    fn findings_by(&self, alloc: Global, index: &Index) -> Result<Vec<FileFinding>, Memory>
+        requires { IsIndex self.now.walking.walk.events.items index.now }
         ensures { IfOk result (λ findings. (past : List Line) (seen : List Seen) → HasSeen past seen self.now
             → AreFound past seen (files_in (events seen)) findings.items) }
     {
         let mut findings = Vec::new(alloc);
-        for file in &files_in(alloc, self.walking.walk.events())? {
-            findings.push(self.file_finding(alloc, *file)?)?;
+        for file in index.files() {
+            findings.push(self.file_finding(alloc, index, *file)?)?;
         }
         Ok(findings)
+    }
+
+    fn file_findings(&self, alloc: Global) -> Result<Vec<FileFinding>, Memory>
+        ensures { IfOk result (λ findings. (past : List Line) (seen : List Seen) → HasSeen past seen self.now
+            → AreFound past seen (files_in (events seen)) findings.items) }
+    {
+        let index = Index::of(alloc, self.walking.walk.events())?;
+        self.findings_by(alloc, &index)
     }
 
     fn client_finding(&self, alloc: Global, loss: Loss) -> Result<ClientFinding, Memory>

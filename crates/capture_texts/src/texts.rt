@@ -218,8 +218,8 @@ fn push_more(alloc: Global, text: &mut String, clients: &[ClientName]) -> Result
     Ok(())
 }
 
-/// Appends what is said of a file, in one line without its line feed: the file, what is decided of it with the packet, and a client
-/// for each lease.
+/// Appends what is said of a file, in one line without its line feed: the file, what is decided of it with the packet, and a
+/// client for each lease.
 ///
 /// # Errors
 ///

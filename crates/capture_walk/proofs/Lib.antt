@@ -3,6 +3,14 @@ pub mod Places
 pub mod Compounds
 pub mod Opening
 pub mod Shares
+pub mod Leases
+pub mod Later
+pub mod Ends
+pub mod Lost
+pub mod Tails
+pub mod Granted
+pub mod Indexed
+pub mod Shown
 pub mod Renamed
 pub mod Negotiated
 pub mod Connected

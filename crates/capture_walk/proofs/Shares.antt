@@ -10,7 +10,8 @@ two_less : (low high : ℕ) (behind : List ℕ) → length (low ∷ high ∷ beh
 two_less low high behind = omega arith
 
 pub unit_next : (path share rest found : List ℕ) → 2 ≤ length rest
-    → found ≡ (if slice_index_or rest 0 0 == 92 && slice_index_or rest 1 0 == 0 then take (length rest - 2) (drop 2 rest) else share)
+    → found ≡ (if slice_index_or rest 0 0 == 92 && slice_index_or rest 1 0 == 0
+    then take (length rest - 2) (drop 2 rest) else share)
     → behind_backslash share rest ≡ share_of path
     → behind_backslash found (take (length rest - 2) (drop 2 rest)) ≡ share_of path
 unit_next path share [] found long is before = grind (arith, long)

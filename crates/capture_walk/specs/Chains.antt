@@ -75,8 +75,8 @@ abbrev pub is_gone : ℕ → Event → Bool
 is_gone number (event.Gone one) = one.opened == number
 is_gone number _ = false
 
--- The request shows the lease; `live` says whether the open that was made with the message is known to be there, unless it is gone
--- later.
+-- The request shows the lease; `live` says whether the open that was made with the message is known to be there, unless it is
+-- gone later.
 abbrev pub shows : Lease → Sent → Bool → Asked → List Event → Bool
 shows lease sent live one later =
     if is_use lease sent.number one then unwrap_or (answer lease one.connection one.id later) false

@@ -1,6 +1,6 @@
 -- What messages show of leases, by the opens that there are.
 use Rattle.std.specs.Prelude.{◌≡◌, ℕ, ◌==◌, ◌+◌, ◌-◌, ◌%◌, nat_lt, ◌&&◌, ◌||◌, Bool, true, false, not, if◌then◌else◌, List, []}
-use Rattle.std.specs.Prelude.{◌∷◌, ◌++◌, Option, Some, None, bytes_eq}
+use Rattle.std.specs.Prelude.{◌∷◌, ◌++◌, Option, Some, None, bytes_eq, length}
 use Rattle.std.specs.Option.{option_map}
 use Rattle.std.specs.List.{list_any, flat_map}
 use Rattle.capture_wire.specs.declared.field.Smb2FileId.{Smb2FileId}
@@ -29,6 +29,8 @@ use Rattle.capture_walk.specs.declared.event.Event.{Event}
 use Rattle.capture_walk.specs.declared.event.Event.TheVariants as event
 use Rattle.capture_walk.specs.declared.event.NotJudged.TheVariants as reason
 use Rattle.capture_walk.specs.declared.opens.Open.{Open}
+use Rattle.capture_walk.specs.LeaseMaps.{said_in, broken_in}
+use Rattle.capture_walk.specs.declared.latest.Latest.{Latest}
 use Rattle.capture_walk.specs.declared.walk.Walk.{Walk}
 use Rattle.capture_judge.specs.declared.values.Level.{Level}
 use Rattle.capture_judge.specs.declared.values.Level.TheVariants as level
@@ -407,6 +409,21 @@ events (seen ∷ past) = with_told seen past
     (((events past ++ heard seen (client_of seen.connection past) (opens past)) ++ ended (made seen past) seen (opens past))
     ++ told_remade (remade seen past))
 
+-- ---- what was said last, as the walk keeps it
+
+-- It knows what these events say last, whatever comes after them.
+pub record KnowsLatest (before : List Event) (latest : Latest) : Type 0 where
+  pub counted : latest.count ≡ length before
+  pub said : (lease : Lease) (later : List Event)
+      → last_said lease (said_in latest.said lease) later ≡ last_said lease None (before ++ later)
+  pub broken : (lease : Lease) (later : List Event)
+      → last_break lease (broken_in latest.broken lease) later ≡ last_break lease None (before ++ later)
+  pub strays : (lease : Lease) (connection asked : ℕ) (later : List Event)
+      → list_any (is_stray_of lease connection asked) (latest.strays.items ++ later)
+      ≡ list_any (is_stray_of lease connection asked) (before ++ later)
+
+-- ---- what the walk knows
+
 -- The walk knows what these messages show.
 pub record Knows (past : List Seen) (walk : Walk) : Type 0 where
   pub clients : KnowsClients past walk.clients
@@ -417,6 +434,7 @@ pub record Knows (past : List Seen) (walk : Walk) : Type 0 where
   pub files : KnowsFiles past walk.files
   pub held : walk.opens.items ≡ opens past
   pub shown : walk.events.items ≡ events past
+  pub latest : KnowsLatest (events past) walk.latest
 
 -- All but what is known of files is the same.
 pub record HasSameButFiles (before now : Walk) : Type 0 where
@@ -427,6 +445,17 @@ pub record HasSameButFiles (before now : Walk) : Type 0 where
   pub renames : now.renames ≡ before.renames
   pub held : now.opens ≡ before.opens
   pub shown : now.events ≡ before.events
+  pub latest : now.latest ≡ before.latest
+
+-- All but events, and what they say last, is the same.
+pub record HasSameButEvents (before now : Walk) : Type 0 where
+  pub clients : now.clients ≡ before.clients
+  pub sides : now.sides ≡ before.sides
+  pub trees : now.trees ≡ before.trees
+  pub creates : now.creates ≡ before.creates
+  pub renames : now.renames ≡ before.renames
+  pub files : now.files ≡ before.files
+  pub held : now.opens ≡ before.opens
 
 -- The opens are these, and all else is the same.
 pub record HasOpens (held : List Open) (before now : Walk) : Type 0 where
@@ -438,3 +467,4 @@ pub record HasOpens (held : List Open) (before now : Walk) : Type 0 where
   pub files : now.files ≡ before.files
   pub items : now.opens.items ≡ held
   pub shown : now.events ≡ before.events
+  pub latest : now.latest ≡ before.latest

@@ -44,7 +44,8 @@ share_of path = behind_backslash path path
 
 abbrev pub is_same_place : Place → Place → Bool
 is_same_place one other =
-    ((one.server == other.server && one.creation_time == other.creation_time) && bytes_eq (share_of one.path) (share_of other.path))
+    ((one.server == other.server && one.creation_time == other.creation_time)
+    && bytes_eq (share_of one.path) (share_of other.path))
     && bytes_eq one.name other.name
 
 -- a life of a file, which begins at a place with the message of this number
@@ -62,7 +63,8 @@ identity_at server creation_time one =
 
 abbrev pub is_same_identity : Identity → Identity → Bool
 is_same_identity one other =
-    (one.server == other.server && one.creation_time == other.creation_time) && (one.file == other.file && one.volume == other.volume)
+    (one.server == other.server && one.creation_time == other.creation_time) && (one.file == other.file
+    && one.volume == other.volume)
 
 -- ---- what a CREATE response says of its file
 
@@ -89,8 +91,8 @@ place_given seen given past =
     place_by seen.server (pending seen.connection given.id past) given
     (create_path seen.server given.session (pending seen.connection given.id past) past)
 
--- What it is known by: its place, where the name is sure to lead to it, what it is on the disk, where the response has that, and the
--- file of the lease under whose key it is granted one.
+-- What it is known by: its place, where the name is sure to lead to it, what it is on the disk, where the response has that,
+-- and the file of the lease under whose key it is granted one.
 pub record Naming : Type 0 where
   pub place : Option Place
   pub identity : Option Identity

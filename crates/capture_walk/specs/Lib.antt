@@ -15,3 +15,6 @@ pub mod Compounds
 pub mod Laws
 pub mod Worked
 pub mod Told
+pub mod LeaseMaps
+pub mod Index
+pub mod Tails

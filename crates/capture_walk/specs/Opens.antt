@@ -1,5 +1,5 @@
--- The opens that there are, with their leases, and which files are known by what. Messages that are called past have the newest one
--- first.
+-- The opens that there are, with their leases, and which files are known by what. Messages that are called past have the newest
+-- one first.
 use Rattle.std.specs.Prelude.{◌≡◌, ℕ, ◌==◌, ◌&&◌, ◌||◌, Bool, false, not, if◌then◌else◌, List, [], ◌∷◌, ◌++◌, Option, Some, None}
 use Rattle.std.specs.Prelude.{filter, option_to_list, bytes_eq}
 use Rattle.lease_state.specs.declared.key.LeaseKey.{LeaseKey}

@@ -30,14 +30,14 @@ answered_at connection id (_ ∷ later) = answered_at connection id later
 
 -- ---- grants
 
--- A CREATE that is answered with a lease (MS-SMB2 3.3.5.9.8, 3.3.5.9.11): the server grants it once it has the request, and before
--- it sends the response. A response to a request that came before the lease was broken last may be from before that break; what it
--- says may have been taken back by then.
+-- A CREATE that is answered with a lease (MS-SMB2 3.3.5.9.8, 3.3.5.9.11): the server grants it once it has the request, and
+-- before it sends the response. A response to a request that came before the lease was broken last may be from before that
+-- break; what it says may have been taken back by then.
 abbrev pub granted_by : Grant → ℕ → Option ℕ
 granted_by one broken = if nat_le broken one.asked then Some one.sent.position else None
 
--- The lease is sure up to the last request that shows it. Where none does, the server may have lost it before it sent the response:
--- the client may have guessed the FileId and closed the open, or a break may have timed out that is still on its way.
+-- The lease is sure up to the last request that shows it. Where none does, the server may have lost it before it sent the
+-- response: the client may have guessed the FileId and closed the open, or a break may have timed out that is still on its way.
 abbrev pub held_by_grant : Grant → ℕ → Option Asked → List Change
 held_by_grant one broken shown =
     change one.level one.asked (granted_by one broken) ∷ doubt true (kept_until one.asked shown)
@@ -51,9 +51,9 @@ changed_by level asked None = change level asked None ∷ []
 changed_by level asked (Some one) = if one.done then change level asked (Some one.position) ∷ [] else []
 
 -- While a break waits for its acknowledgment the lease stays as it is (3.3.4.7), and the acknowledgment that the server accepts
--- leaves what it says (3.3.5.22.2). One that isn't to be acknowledged has taken the lease away when it is sent, or has left what it
--- says. Where none is accepted that has to be, the lease isn't sure to be there any more, since the server may take all of it away
--- when its timer runs out (3.3.6.5): that stands with the grant.
+-- leaves what it says (3.3.5.22.2). One that isn't to be acknowledged has taken the lease away when it is sent, or has left
+-- what it says. Where none is accepted that has to be, the lease isn't sure to be there any more, since the server may take all
+-- of it away when its timer runs out (3.3.6.5): that stands with the grant.
 abbrev pub held_by_break : Break → Option Acknowledged → Option Asked → List Event → List Change
 held_by_break one (Some given) shown later =
     changed_by given.level given.last (answered_at given.connection given.id later) ++ doubt true (kept_until given.last shown)
@@ -63,8 +63,8 @@ held_by_break one None shown later =
 
 -- ---- ends
 
--- The last open under the lease is closed between the CLOSE and its answer (3.3.5.10). Where the server refuses that, it has ended
--- the open by itself, at some time before.
+-- The last open under the lease is closed between the CLOSE and its answer (3.3.5.10). Where the server refuses that, it has
+-- ended the open by itself, at some time before.
 abbrev pub closed_by : ℕ → Option Answered → List Change
 closed_by asked None = doubt true asked
 closed_by asked (Some one) = if one.done then change Nothing asked (Some one.position) ∷ [] else doubt true 0

@@ -1,4 +1,5 @@
--- Worked examples: what the server is seen to hold for leases on a file. Client 1 is granted writes by the response at 4 to its request at 1.
+-- Worked examples: what the server is seen to hold for leases on a file. Client 1 is granted writes by the response at 4 to its
+-- request at 1.
 use Rattle.std.specs.Prelude.{◌≡◌, ◌+◌, ◌++◌, ℕ, Bool, true, false, List, ◌∷◌, [], Option, Some, None, replicate}
 use Rattle.capture_judge.specs.Worked.{certain, doubtful}
 use Rattle.capture_judge.specs.declared.values.Level.{Level}
@@ -68,14 +69,16 @@ acknowledged =
 abbrev pub Holds : List Event → List Change → Type 0
 Holds events changes = tables_on file events ≡ (1, changes) ∷ []
 
--- Client 2 is granted something by the response at 8, and client 1 still writes at 9 as the server wants it: the server held both.
+-- Client 2 is granted something by the response at 8, and client 1 still writes at 9 as the server wants it: the server held
+-- both.
 abbrev pub GrantedBeside : Type 0
 GrantedBeside = tables_on file (granted 1 Writes 2 1 4 ∷ granted 2 Something 4 7 8 ∷ used 1 2 4 9 ++ used 2 4 3 11)
     ≡ (1, certain Writes 1 4 ∷ doubtful Nothing 9 ∷ []) ∷ (2, certain Something 7 8 ∷ doubtful Nothing 11 ∷ []) ∷ []
 
 -- The acknowledgment of a break that was sent at 8 is sent at 9, and accepted at 10.
 abbrev pub LoweredByAcknowledgment : Type 0
-LoweredByAcknowledgment = Holds (granted 1 Writes 2 1 4 ∷ used 1 2 4 5 ++ broken Something true ∷ acknowledged ∷ answered 1 5 true 10)
+LoweredByAcknowledgment =
+    Holds (granted 1 Writes 2 1 4 ∷ used 1 2 4 5 ++ broken Something true ∷ acknowledged ∷ answered 1 5 true 10)
     (certain Writes 1 4 ∷ doubtful Nothing 5 ∷ certain Something 9 10 ∷ doubtful Nothing 9 ∷ [])
 
 -- The server refuses that acknowledgment. So from the last request that showed the lease the timer may have ended it.
@@ -100,5 +103,6 @@ LostWithConnection = Holds (granted 1 Writes 2 1 4 ∷ ended None ∷ [])
 
 -- Something of client 1 is missing from 6 on.
 abbrev pub UnsureBehindGap : Type 0
-UnsureBehindGap = Holds (granted 1 Writes 2 1 4 ∷ used 1 2 4 7 ++ event.Lost (record { client = 1; since = 6; reason = Missing }) ∷ [])
+UnsureBehindGap =
+    Holds (granted 1 Writes 2 1 4 ∷ used 1 2 4 7 ++ event.Lost (record { client = 1; since = 6; reason = Missing }) ∷ [])
     (certain Writes 1 4 ∷ doubtful Nothing 1 ∷ doubtful Nothing 6 ∷ [])

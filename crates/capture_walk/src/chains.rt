@@ -5,9 +5,14 @@ ghost use Rattle.capture_walk.specs.Chains.{answer, taken, is_accepted, acknowle
 ghost use Rattle.capture_walk.specs.Chains.{cuts, shown_before, last_shown, is_gone};
 ghost use Rattle.capture_walk.specs.Chains.{sure_by, kept_until, changes_by_grant, changes_by_break, changes, changes_by};
 ghost use Rattle.capture_walk.specs.Chains.{doubt, earliest, lost_since, is_before, is_known, cut_off, known_changes};
-ghost use Rattle.capture_walk.specs.Chains.{leases_on, chains_on, files_in, is_file, is_same, chain_by, chain_of};
+ghost use Rattle.capture_walk.specs.Chains.{chains_on, is_same, chain_by, chain_of};
+ghost use Rattle.capture_walk.specs.Index.{Covers, IsIndex, from_places, places_at};
+ghost use Rattle.capture_walk.specs.Tails.{acknowledgment_in, changes_in, changes_with};
+ghost use Rattle.std.specs.Prelude.{◌∷◌};
 
 use crate::event::{Acknowledged, Asked, Break, Event, Grant, Lease, Sent};
+use crate::index::Index;
+use crate::slices::from;
 use capture_judge::{Chain, Change, Level};
 use lease_state::Memory;
 use std::alloc::Global;
@@ -39,9 +44,14 @@ pub(crate) fn is_known(since: Option<u64>, event: &Event) -> bool
 }
 
 // The position at which a message of the server is first shown to have been taken.
-fn taken(sent: Sent, later: &[Event], since: Option<u64>) -> Option<u64>
+#[tactic(auto, using(crate::proofs::Shown::never_taken))]
+fn taken(sent: Sent, later: &[Event], since: Option<u64>, index: &Index) -> Option<u64>
+    requires { Covers later.now index.now }
     ensures { result ≡ taken sent (filter (is_known since) later.now) }
 {
+    if !index.may_be_taken(sent) {
+        return None;
+    }
     for event in later {
         if let Event::Taken(proof) = event {
             if proof.connection == sent.connection
@@ -106,6 +116,30 @@ pub(crate) fn acknowledgment(
     None
 }
 
+/// The acknowledgment of a break of a lease that the server accepts, by where the events are that are about the lease after it.
+pub(crate) fn acknowledgment_at(
+    lease: Lease,
+    places: &[usize],
+    events: &[Event],
+    since: Option<u64>,
+) -> Option<Acknowledged>
+    ensures { result ≡ acknowledgment_in lease since (from_places events.now places.now) }
+{
+    for place in places {
+        if let [event, later @ ..] = from(events, *place) {
+            match event {
+                _ if !is_known(since, event) => {}
+                Event::Acknowledged(given) if is_accepted(lease, given, later, since) => {
+                    return Some(*given);
+                }
+                Event::Broken(broken) if broken.lease.is(lease) => return None,
+                _ => {}
+            }
+        }
+    }
+    None
+}
+
 fn is_for(lease: Lease, other: Option<Lease>) -> bool
     ensures { result ≡ is_for lease other }
 {
@@ -139,9 +173,14 @@ fn is_gone(number: u64, event: &Event) -> bool
 }
 
 // Whether the server is found to have ended the open that was made with a message.
-fn has_gone(number: u64, later: &[Event], since: Option<u64>) -> bool
+#[tactic(auto, using(crate::proofs::Shown::never_gone))]
+fn has_gone(number: u64, later: &[Event], since: Option<u64>, index: &Index) -> bool
+    requires { Covers later.now index.now }
     ensures { result ≡ list_any (is_gone number) (filter (is_known since) later.now) }
 {
+    if !index.may_be_gone(number) {
+        return false;
+    }
     for event in later {
         if is_known(since, event) && is_gone(number, event) {
             return true;
@@ -158,7 +197,9 @@ fn shows(
     one: &Asked,
     later: &[Event],
     since: Option<u64>,
+    index: &Index,
 ) -> bool
+    requires { Covers later.now index.now }
     ensures { result ≡ shows lease sent is_live one.now (filter (is_known since) later.now) }
 {
     if is_use(lease, sent.number, one) {
@@ -166,7 +207,7 @@ fn shows(
     }
     is_live
         && one.connection == sent.connection
-        && !has_gone(sent.number, later, since)
+        && !has_gone(sent.number, later, since, index)
         && answer(lease, one.connection, one.id, later, since).is_some()
 }
 
@@ -174,11 +215,7 @@ fn shows(
 fn cuts(lease: Lease, broken: &Break, later: &[Event], since: Option<u64>) -> bool
     ensures { result ≡ cuts lease broken.now (filter (is_known since) later.now) }
 {
-    broken.lease.is(lease)
-        && match acknowledgment(lease, later, since) {
-            Some(_) => false,
-            None => broken.acknowledged,
-        }
+    broken.lease.is(lease) && broken.acknowledged && acknowledgment(lease, later, since).is_none()
 }
 
 fn shown_before(broken: &Break, found: Option<Asked>) -> Option<Asked>
@@ -193,27 +230,31 @@ fn shown_before(broken: &Break, found: Option<Asked>) -> Option<Asked>
 }
 
 /// The last request that shows a lease after a message of the server.
+#[tactic(auto, using(crate::proofs::Shown::covers_later))]
 pub(crate) fn last_shown(
     lease: Lease,
     sent: Sent,
     later: &[Event],
     since: Option<u64>,
+    index: &Index,
 ) -> Option<Asked>
+    requires { Covers later.now index.now }
     ensures { result ≡ last_shown lease sent false None (filter (is_known since) later.now) }
 {
     let mut is_live = false;
     let mut found: Option<Asked> = None;
-    for (index, event) in later.iter().enumerate() {
+    for (place, event) in later.iter().enumerate() {
+        let rest = from(later, place + 1);
         match event {
             _ if !is_known(since, event) => {}
-            Event::Asked(one) if shows(lease, sent, is_live, one, &later[index + 1..], since) => {
+            Event::Asked(one) if shows(lease, sent, is_live, one, rest, since, index) => {
                 is_live = is_live || is_own(lease, sent.number, one);
                 found = Some(*one);
             }
             Event::Closed(one) => is_live = is_live && one.opened != sent.number,
             Event::Gone(one) => is_live = is_live && one.opened != sent.number,
             Event::Ended(end) if end.lease.is(lease) => return found,
-            Event::Broken(broken) if cuts(lease, broken, &later[index + 1..], since) => {
+            Event::Broken(broken) if cuts(lease, broken, rest, since) => {
                 return shown_before(broken, found);
             }
             _ => {}
@@ -257,16 +298,18 @@ fn push_granted(
     grant: &Grant,
     later: &[Event],
     since: Option<u64>,
+    index: &Index,
 ) -> Result<(), Memory>
+    requires { Covers later.now index.now }
     ensures { OnOk result (changes.new.items ≡ changes.old.items ++ changes_by_grant grant.now
         (taken grant.now.sent (filter (is_known since) later.now))
         (last_shown grant.now.lease grant.now.sent false None (filter (is_known since) later.now))) }
 {
-    let shown = last_shown(grant.lease, grant.sent, later, since);
+    let shown = last_shown(grant.lease, grant.sent, later, since, index);
     changes.push(Change {
         level: grant.level,
         first: grant.sent.position,
-        last: sure_by(taken(grant.sent, later, since), shown),
+        last: sure_by(taken(grant.sent, later, since, index), shown),
     })?;
     match shown {
         Some(one) => push_doubt(changes, true, one.position),
@@ -284,26 +327,28 @@ pub(crate) fn kept_until(last: u64, shown: Option<Asked>) -> u64
     }
 }
 
-// What a break leaves, where these events come after it.
+// What a break leaves, where it is acknowledged so, and these events come after it.
 fn push_broken(
     changes: &mut Vec<Change>,
     broken: &Break,
+    given: Option<Acknowledged>,
     later: &[Event],
     since: Option<u64>,
+    index: &Index,
 ) -> Result<(), Memory>
+    requires { Covers later.now index.now }
     ensures { OnOk result (changes.new.items
-        ≡ changes.old.items ++ changes_by_break broken.now
-        (acknowledgment broken.now.lease (filter (is_known since) later.now)) (filter (is_known since) later.now)) }
+        ≡ changes.old.items ++ changes_by_break broken.now given (filter (is_known since) later.now)) }
 {
     let first = broken.sent.position;
-    match acknowledgment(broken.lease, later, since) {
+    match given {
         Some(given) => {
             changes.push(Change {
                 level: given.level,
                 first,
                 last: Some(given.last),
             })?;
-            let shown = last_shown(broken.lease, broken.sent, later, since);
+            let shown = last_shown(broken.lease, broken.sent, later, since, index);
             push_doubt(changes, true, kept_until(given.last, shown))
         }
         None if broken.acknowledged => Ok(()),
@@ -311,86 +356,99 @@ fn push_broken(
             changes.push(Change {
                 level: broken.level,
                 first,
-                last: taken(broken.sent, later, since),
+                last: taken(broken.sent, later, since, index),
             })?;
             Ok(())
         }
     }
 }
 
-// The changes that an event makes of a lease, where these come after it.
+// The changes that an event makes of a lease, where a break by it is acknowledged so, and these events come after it.
 fn push_changes(
     changes: &mut Vec<Change>,
     lease: Lease,
     event: &Event,
+    given: Option<Acknowledged>,
     later: &[Event],
     since: Option<u64>,
+    index: &Index,
 ) -> Result<(), Memory>
+    requires { Covers later.now index.now }
     ensures { OnOk result
-        (changes.new.items ≡ changes.old.items ++ changes_by lease event.now (filter (is_known since) later.now)) }
+        (changes.new.items ≡ changes.old.items ++ changes_with lease event.now (filter (is_known since) later.now) given) }
 {
     match event {
-        Event::Granted(grant) if grant.lease.is(lease) => push_granted(
-            changes, grant, later, since,
-        )?,
-        Event::Broken(broken) if broken.lease.is(lease) => push_broken(
-            changes, broken, later, since,
-        )?,
-        Event::Ended(end) if end.lease.is(lease) => changes.push(Change {
-            level: Level::Nothing,
-            first: end.first,
-            last: Some(end.last),
-        })?,
-        _ => {}
+        Event::Granted(grant) if grant.lease.is(lease) => {
+            push_granted(changes, grant, later, since, index)
+        }
+        Event::Broken(broken) if broken.lease.is(lease) => {
+            push_broken(changes, broken, given, later, since, index)
+        }
+        Event::Ended(end) if end.lease.is(lease) => {
+            changes.push(Change {
+                level: Level::Nothing,
+                first: end.first,
+                last: Some(end.last),
+            })?;
+            Ok(())
+        }
+        _ => Ok(()),
     }
-    Ok(())
+}
+
+// The changes by the first of these events, where these are the places of those about the lease after it.
+#[tactic(auto, using(crate::proofs::Shown::covers_later))]
+fn push_first(
+    changes: &mut Vec<Change>,
+    lease: Lease,
+    from: &[Event],
+    places: &[usize],
+    events: &[Event],
+    since: Option<u64>,
+    index: &Index,
+) -> Result<(), Memory>
+    requires { Covers from.now index.now }
+    ensures { OnOk result (changes.new.items ++ changes_in lease since (from_places events.now places.now)
+        ≡ changes.old.items ++ changes_in lease since (from.now ∷ from_places events.now places.now)) }
+{
+    let [event, later @ ..] = from else {
+        return Ok(());
+    };
+    if !is_known(since, event) {
+        return Ok(());
+    }
+    let given = acknowledgment_at(lease, places, events, since);
+    push_changes(changes, lease, event, given, later, since, index)
 }
 
 // All changes of a lease, by the events that count.
+#[tactic(auto, using(crate::proofs::Shown::covers_from))]
 fn changes_of(
     alloc: Global,
     lease: Lease,
     events: &[Event],
     since: Option<u64>,
+    index: &Index,
 ) -> Result<Vec<Change>, Memory>
-    ensures { IfOk result (λ found. found.items ≡ changes lease (filter (is_known since) events.now)) }
+    requires { IsIndex events.now index.now }
+    ensures { IfOk result (λ found. found.items
+        ≡ changes_in lease since (from_places events.now (places_at index.now.places lease))) }
 {
     let mut changes = Vec::new(alloc);
-    for (index, event) in events.iter().enumerate() {
-        if is_known(since, event) {
-            push_changes(&mut changes, lease, event, &events[index + 1..], since)?;
-        }
+    let places = index.places(lease);
+    for (number, place) in places.iter().enumerate() {
+        let rest = &places[number + 1..];
+        push_first(
+            &mut changes,
+            lease,
+            from(events, *place),
+            rest,
+            events,
+            since,
+            index,
+        )?;
     }
     Ok(changes)
-}
-
-fn earliest(found: Option<u64>, since: u64) -> u64
-    ensures { result ≡ earliest found since }
-{
-    match found {
-        Some(other) if since < other => since,
-        Some(other) => other,
-        None => since,
-    }
-}
-
-/// From which position on something of a lease's client may be missing, or its file may be another one.
-pub(crate) fn lost_since(lease: Lease, events: &[Event]) -> Option<u64>
-    ensures { result ≡ lost_since lease None events.now }
-{
-    let mut found: Option<u64> = None;
-    for event in events {
-        match event {
-            Event::Lost(loss) if loss.client == lease.client => {
-                found = Some(earliest(found, loss.since));
-            }
-            Event::Remade(one) if one.file == lease.file => {
-                found = Some(earliest(found, one.since));
-            }
-            _ => {}
-        }
-    }
-    found
 }
 
 /// From where on something may be missing any lease may be lost.
@@ -405,35 +463,21 @@ pub(crate) fn cut_off(since: Option<u64>, changes: &mut Vec<Change>) -> Result<(
 }
 
 // The changes of a lease up to where something of its client may be missing.
-fn known_changes(alloc: Global, lease: Lease, events: &[Event]) -> Result<Vec<Change>, Memory>
+#[tactic(auto, using(crate::proofs::Shown::known_by_index))]
+fn known_changes(
+    alloc: Global,
+    lease: Lease,
+    events: &[Event],
+    index: &Index,
+) -> Result<Vec<Change>, Memory>
+    requires { IsIndex events.now index.now }
     ensures { IfOk result (λ found. found.items
         ≡ known_changes lease events.now (lost_since lease None events.now)) }
 {
-    let since = lost_since(lease, events);
-    let mut changes = changes_of(alloc, lease, events, since)?;
+    let since = index.lost_since(lease);
+    let mut changes = changes_of(alloc, lease, events, since, index)?;
     cut_off(since, &mut changes)?;
     Ok(changes)
-}
-
-fn is_among(leases: &[Lease], lease: Lease) -> bool
-    ensures { result ≡ list_any (is_same lease) leases.now }
-{
-    leases.iter().any(|one| lease.is(*one))
-}
-
-/// The leases on a file.
-pub(crate) fn leases_on(alloc: Global, file: u64, events: &[Event]) -> Result<Vec<Lease>, Memory>
-    ensures { IfOk result (λ leases. leases.items ≡ leases_on file events.now) }
-{
-    let mut leases: Vec<Lease> = Vec::new(alloc);
-    for event in events {
-        if let Event::Granted(grant) = event {
-            if grant.lease.file == file && !is_among(&leases, grant.lease) {
-                leases.push(grant.lease)?;
-            }
-        }
-    }
-    Ok(leases)
 }
 
 /// The chain of a lease, where any changes of it are known.
@@ -454,37 +498,23 @@ pub(crate) fn push_chain(
 /// happen, for `capture_judge::judge_placing`. From where something of a client may be missing it may have lost its leases,
 /// and what comes later doesn't count. The events are in the order of the capture.
 ///
-/// Fails where there is no memory.
-pub fn chains_on(alloc: Global, file: u64, events: &[Event]) -> Result<Vec<Chain>, Memory>
+/// # Errors
+///
+/// `Memory` where there is none left.
+#[tactic(auto, using(crate::proofs::Shown::leases_by_index))]
+pub fn chains_on(
+    alloc: Global,
+    file: u64,
+    events: &[Event],
+    index: &Index,
+) -> Result<Vec<Chain>, Memory>
+    requires { IsIndex events.now index.now }
     ensures { IfOk result (λ chains. map shown chains.items ≡ chains_on file events.now) }
 {
     let mut chains = Vec::new(alloc);
-    for lease in &leases_on(alloc, file, events)? {
-        let changes = known_changes(alloc, *lease, events)?;
+    for lease in index.leases_on(file) {
+        let changes = known_changes(alloc, *lease, events, index)?;
         push_chain(&mut chains, lease.client, changes)?;
     }
     Ok(chains)
-}
-
-fn has_file(files: &[u64], wanted: u64) -> bool
-    ensures { result ≡ list_any (is_file wanted) files.now }
-{
-    files.iter().any(|file| *file == wanted)
-}
-
-/// The numbers of the files on which leases are granted, in the order in which they come.
-///
-/// Fails where there is no memory.
-pub fn files_in(alloc: Global, events: &[Event]) -> Result<Vec<u64>, Memory>
-    ensures { IfOk result (λ files. files.items ≡ files_in events.now) }
-{
-    let mut files: Vec<u64> = Vec::new(alloc);
-    for event in events {
-        if let Event::Granted(grant) = event {
-            if !has_file(&files, grant.lease.file) {
-                files.push(grant.lease.file)?;
-            }
-        }
-    }
-    Ok(files)
 }

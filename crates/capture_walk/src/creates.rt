@@ -104,7 +104,8 @@ impl Creates {
 
     // The name that the request has.
     fn name_of(&self, connection: u64, id: u64) -> Result<Option<Bytes>, Memory>
-        ensures { IfOk result (λ name. name ≡ option_map (λ create. create.name) (create_in connection id self.now.pending.items)) }
+        ensures { IfOk result (λ name. name
+            ≡ option_map (λ create. create.name) (create_in connection id self.now.pending.items)) }
     {
         match self.pending(connection, id) {
             Some(create) => Ok(Some(create.name.try_copy()?)),

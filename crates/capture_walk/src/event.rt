@@ -7,7 +7,7 @@ use lease_state::{LeaseKey, LeaseState};
 
 /// A lease: that of a client under a key on a file. The numbers of clients and files are those of the
 /// messages with which the capture begins to show them.
-#[derive(Clone, Copy, Debug, PartialEq, Eq)]
+#[derive(Clone, Copy, Debug, PartialEq, Eq, PartialOrd, Ord)]
 pub struct Lease {
     pub client: u64,
     pub key: LeaseKey,
@@ -186,7 +186,8 @@ pub struct Loss {
 pub struct Asked {
     /// The lease that it is about, where it names an open under one by its FileId, or acknowledges a break.
     pub lease: Option<Lease>,
-    /// The number of the message that made that open, or for an acknowledgment the last one under the lease; 0 where there is none.
+    /// The number of the message that made that open, or for an acknowledgment the last one under the lease; 0 where there is
+    /// none.
     pub opened: u64,
     pub connection: u64,
     /// Its MessageId.

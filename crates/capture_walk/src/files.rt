@@ -308,8 +308,8 @@ impl Files {
         Ok(())
     }
 
-    /// The file that a CREATE opens, by what it is known by; its life begins with the response, a message with this number, where it
-    /// is new or wasn't known.
+    /// The file that a CREATE opens, by what it is known by; its life begins with the response, a message with this number,
+    /// where it is new or wasn't known.
     pub(crate) fn open(
         &mut self,
         naming: Naming<'_>,

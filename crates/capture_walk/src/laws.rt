@@ -8,8 +8,8 @@ pub fn opens_are_made()
 {}
 
 /// Worked examples of what the server is seen to hold: a lease that is granted beside another one; one that is lowered by an
-/// acknowledgment, taken by a break, given up by a CLOSE; and those that may have ended by a timer, with a connection, or behind a
-/// gap. Does nothing.
+/// acknowledgment, taken by a break, given up by a CLOSE; and those that may have ended by a timer, with a connection, or
+/// behind a gap. Does nothing.
 pub fn tables_are_as_worked()
     ensures granted_beside { GrantedBeside }
     ensures lowered { LoweredByAcknowledgment }

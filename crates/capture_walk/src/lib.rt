@@ -10,8 +10,9 @@
 //!     Err(_) => walk.take(&frame.seen(0, Note::Gap))?,
 //! }
 //! walk.take(&frame.seen(1, Note::End))?;
-//! for file in &files_in(alloc, walk.events())? {
-//!     let chains = chains_on(alloc, *file, walk.events())?;
+//! let index = Index::of(alloc, walk.events())?;
+//! for file in index.files() {
+//!     let chains = chains_on(alloc, *file, walk.events(), &index)?;
 //!     let placing = judge_placing(alloc, &chains)?;
 //! }
 //! ```
@@ -29,19 +30,22 @@ mod creates;
 mod event;
 mod files;
 mod frame;
+mod index;
+mod latest;
 mod laws;
 mod note;
 mod opens;
 mod reading;
 mod renames;
 mod sides;
+mod slices;
 mod tables;
 mod telling;
 mod told;
 mod trees;
 mod walk;
 
-pub use chains::{chains_on, files_in};
+pub use chains::chains_on;
 pub use compound::{FrameFault, read_frame};
 pub use event::{
     Acknowledged, Answered, Asked, Break, Closed, End, Event, Gone, Grant, Lease, Loss,
@@ -49,6 +53,7 @@ pub use event::{
 };
 pub use files::Place;
 pub use frame::Frame;
+pub use index::Index;
 pub use laws::{opens_are_made, tables_are_as_worked};
 pub use note::{
     BreakNote, CreateAsked, CreateGiven, KeyLevel, LeaseGiven, Note, OpenName, Seen, TreeAsked,

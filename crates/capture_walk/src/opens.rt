@@ -1,4 +1,4 @@
-ghost use Rattle.std.specs.Prelude.{◌++◌, ◌≡◌, Some, OnOk, IfOk, List};
+ghost use Rattle.std.specs.Prelude.{◌++◌, ◌≡◌, Some, OnOk, IfOk, List, false};
 ghost use Rattle.std.specs.Option.{option_map};
 ghost use Rattle.capture_walk.specs.Clients.{KnowsClients, client_of};
 ghost use Rattle.capture_walk.specs.Trees.{KnowsTrees, path_of};
@@ -8,6 +8,7 @@ ghost use Rattle.capture_walk.specs.Opens.{is_under, key_granted, file_under, le
 ghost use Rattle.capture_walk.specs.Opens.{is_application, is_other_client, is_taken_over, ends, made_by, known, opens};
 ghost use Rattle.capture_walk.specs.Opens.{KnowsFiles, AreKnownAfter};
 ghost use Rattle.capture_walk.specs.declared.note.Seen.{Seen};
+ghost use Rattle.capture_walk.specs.declared.opens.Open.{Open};
 
 use crate::clients::Clients;
 use crate::creates::{Create, Creates};
@@ -112,6 +113,17 @@ impl Open {
     {
         self.is_ended(seen) || self.is_taken_over(made)
     }
+}
+
+/// Whether a message may end opens, by the open that it makes.
+pub(crate) fn may_end(seen: &Seen<'_>, made: Option<Open>) -> bool
+    ensures { result ≡ false → (one : Open) → ends made seen.now one ≡ false }
+{
+    made.is_some()
+        || matches!(
+            seen.note,
+            Note::Close(_) | Note::CreateGiven(_) | Note::Leave(_) | Note::LeaveTree(_) | Note::End
+        )
 }
 
 // The key under which a CREATE response grants a lease, where it is the one that was asked for.

@@ -2,15 +2,19 @@
 
 ghost use Rattle.std.specs.Prelude.{◌≡◌, ◌++◌, [], None, true, false, filter, map, OnOk, IfOk};
 ghost use Rattle.capture_judge.specs.Worked.{shown};
-ghost use Rattle.capture_walk.specs.Chains.{acknowledgment, chain_by, is_known, last_shown, lost_since};
+ghost use Rattle.capture_walk.specs.Chains.{chain_by, is_known, last_shown, lost_since};
+ghost use Rattle.capture_walk.specs.Index.{Covers, IsIndex, from_places, places_at};
+ghost use Rattle.capture_walk.specs.Tails.{held_in, held_with};
+ghost use Rattle.std.specs.Prelude.{◌∷◌};
 ghost use Rattle.capture_walk.specs.Tables.{answered_at, granted_by, held_by_grant, changed_by, held_by_break, closed_by};
 ghost use Rattle.capture_walk.specs.Tables.{ended_with, held_by, broken_at, held, known_held, tables_on};
 
 use crate::chains::{
-    acknowledgment, cut_off, is_known, kept_until, last_shown, leases_on, lost_since, push_chain,
-    push_doubt,
+    acknowledgment_at, cut_off, is_known, kept_until, last_shown, push_chain, push_doubt,
 };
 use crate::event::{Acknowledged, Answered, Asked, Break, End, Event, Grant, Lease};
+use crate::index::Index;
+use crate::slices::from;
 use capture_judge::{Chain, Change, Level};
 use lease_state::Memory;
 use std::alloc::Global;
@@ -93,20 +97,19 @@ fn push_acknowledged(
     push_changed(changes, given.level, given.last, answer)
 }
 
-// What a break leaves, where these events come after it.
+// What a break leaves, where it is acknowledged so, this request shows the lease last, and these events come after the break.
 fn push_broken(
     changes: &mut Vec<Change>,
     broken: &Break,
+    given: Option<Acknowledged>,
+    shown: Option<Asked>,
     later: &[Event],
     since: Option<u64>,
 ) -> Result<(), Memory>
-    ensures { OnOk result (changes.new.items ≡ changes.old.items ++ held_by_break broken.now
-        (acknowledgment broken.now.lease (filter (is_known since) later.now))
-        (last_shown broken.now.lease broken.now.sent false None (filter (is_known since) later.now))
-        (filter (is_known since) later.now)) }
+    ensures { OnOk result (changes.new.items
+        ≡ changes.old.items ++ held_by_break broken.now given shown (filter (is_known since) later.now)) }
 {
-    let shown = last_shown(broken.lease, broken.sent, later, since);
-    match acknowledgment(broken.lease, later, since) {
+    match given {
         Some(given) => {
             push_acknowledged(changes, &given, later, since)?;
             push_doubt(changes, true, kept_until(given.last, shown))
@@ -165,24 +168,30 @@ fn push_ended(
     }
 }
 
-// What an event changes of what the server holds for a lease, where these come after it.
+// What an event changes of what the server holds for a lease, where a break by it is acknowledged so, and these come after it.
 fn push_held(
     changes: &mut Vec<Change>,
     lease: Lease,
     broken: u64,
     event: &Event,
+    given: Option<Acknowledged>,
     later: &[Event],
     since: Option<u64>,
+    index: &Index,
 ) -> Result<(), Memory>
-    ensures { OnOk result
-        (changes.new.items ≡ changes.old.items ++ held_by lease broken event.now (filter (is_known since) later.now)) }
+    requires { Covers later.now index.now }
+    ensures { OnOk result (changes.new.items
+        ≡ changes.old.items ++ held_with lease broken event.now (filter (is_known since) later.now) given) }
 {
     match event {
         Event::Granted(grant) if grant.lease.is(lease) => {
-            let shown = last_shown(grant.lease, grant.sent, later, since);
+            let shown = last_shown(grant.lease, grant.sent, later, since, index);
             push_granted(changes, grant, broken, shown)
         }
-        Event::Broken(one) if one.lease.is(lease) => push_broken(changes, one, later, since),
+        Event::Broken(one) if one.lease.is(lease) => {
+            let shown = last_shown(one.lease, one.sent, later, since, index);
+            push_broken(changes, one, given, shown, later, since)
+        }
         Event::Ended(end) if end.lease.is(lease) => push_ended(changes, end, later, since),
         _ => Ok(()),
     }
@@ -198,39 +207,78 @@ fn broken_at(lease: Lease, before: u64, event: &Event) -> u64
     }
 }
 
+// What the first of these events changes, where these are the places of those about the lease after it. Says where the lease is
+// broken last then.
+#[tactic(auto, using(crate::proofs::Shown::covers_later))]
+fn push_first(
+    changes: &mut Vec<Change>,
+    lease: Lease,
+    broken: u64,
+    from: &[Event],
+    places: &[usize],
+    events: &[Event],
+    since: Option<u64>,
+    index: &Index,
+) -> Result<u64, Memory>
+    requires { Covers from.now index.now }
+    ensures { IfOk result (λ last. changes.new.items ++ held_in lease since last (from_places events.now places.now)
+        ≡ changes.old.items ++ held_in lease since broken (from.now ∷ from_places events.now places.now)) }
+{
+    let [event, later @ ..] = from else {
+        return Ok(broken);
+    };
+    if !is_known(since, event) {
+        return Ok(broken);
+    }
+    let given = acknowledgment_at(lease, places, events, since);
+    push_held(changes, lease, broken, event, given, later, since, index)?;
+    Ok(broken_at(lease, broken, event))
+}
+
 // What the server holds for a lease, change by change, by the events that count.
+#[tactic(auto, using(crate::proofs::Shown::covers_from))]
 fn held(
     alloc: Global,
     lease: Lease,
     events: &[Event],
     since: Option<u64>,
+    index: &Index,
 ) -> Result<Vec<Change>, Memory>
-    ensures { IfOk result (λ found. found.items ≡ held lease 0 (filter (is_known since) events.now)) }
+    requires { IsIndex events.now index.now }
+    ensures { IfOk result (λ found. found.items
+        ≡ held_in lease since 0 (from_places events.now (places_at index.now.places lease))) }
 {
     let mut changes = Vec::new(alloc);
     let mut broken = 0;
-    for (index, event) in events.iter().enumerate() {
-        if is_known(since, event) {
-            push_held(
-                &mut changes,
-                lease,
-                broken,
-                event,
-                &events[index + 1..],
-                since,
-            )?;
-            broken = broken_at(lease, broken, event);
-        }
+    let places = index.places(lease);
+    for (number, place) in places.iter().enumerate() {
+        broken = push_first(
+            &mut changes,
+            lease,
+            broken,
+            from(events, *place),
+            &places[number + 1..],
+            events,
+            since,
+            index,
+        )?;
     }
     Ok(changes)
 }
 
 // That up to where something of its client may be missing.
-fn known_held(alloc: Global, lease: Lease, events: &[Event]) -> Result<Vec<Change>, Memory>
+#[tactic(auto, using(crate::proofs::Shown::held_by_index))]
+fn known_held(
+    alloc: Global,
+    lease: Lease,
+    events: &[Event],
+    index: &Index,
+) -> Result<Vec<Change>, Memory>
+    requires { IsIndex events.now index.now }
     ensures { IfOk result (λ found. found.items ≡ known_held lease events.now (lost_since lease None events.now)) }
 {
-    let since = lost_since(lease, events);
-    let mut changes = held(alloc, lease, events, since)?;
+    let since = index.lost_since(lease);
+    let mut changes = held(alloc, lease, events, since, index)?;
     cut_off(since, &mut changes)?;
     Ok(changes)
 }
@@ -240,13 +288,22 @@ fn known_held(alloc: Global, lease: Lease, events: &[Event]) -> Result<Vec<Chang
 /// leases that clash. From where something of a client may be missing its leases may be lost, and what comes later doesn't count.
 /// The events are in the order of the capture.
 ///
-/// Fails where there is no memory.
-pub fn tables_on(alloc: Global, file: u64, events: &[Event]) -> Result<Vec<Chain>, Memory>
+/// # Errors
+///
+/// `Memory` where there is none left.
+#[tactic(auto, using(crate::proofs::Shown::leases_by_index))]
+pub fn tables_on(
+    alloc: Global,
+    file: u64,
+    events: &[Event],
+    index: &Index,
+) -> Result<Vec<Chain>, Memory>
+    requires { IsIndex events.now index.now }
     ensures { IfOk result (λ chains. map shown chains.items ≡ tables_on file events.now) }
 {
     let mut chains = Vec::new(alloc);
-    for lease in &leases_on(alloc, file, events)? {
-        let changes = known_held(alloc, *lease, events)?;
+    for lease in index.leases_on(file) {
+        let changes = known_held(alloc, *lease, events, index)?;
         push_chain(&mut chains, lease.client, changes)?;
     }
     Ok(chains)

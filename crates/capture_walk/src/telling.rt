@@ -9,14 +9,16 @@ ghost use Rattle.capture_walk.specs.Events.{dispute, is_stray_of, strayed, stray
 ghost use Rattle.capture_walk.specs.Events.{granted_lease, granted_of, lost_under, broken_of, broken, lost_of, lost_at, missing};
 ghost use Rattle.capture_walk.specs.Events.{closing, last_asked, gone, acknowledged, closed, asked_of, asked_by, answer_by, heard, told_remade, told_by, is_of, all_taken};
 ghost use Rattle.capture_walk.specs.Opens.{is_under};
+ghost use Rattle.capture_walk.specs.Events.{KnowsLatest};
 ghost use Rattle.capture_walk.specs.declared.event.Event.TheVariants as event;
 
 use crate::event::{
     Acknowledged, Answered, Asked, Break, Closed, End, Event, Gone, Grant, Lease, Loss,
     Misnumbered, NotJudged, Proof, Remade, Said, Sent, Stray,
 };
+use crate::latest::Latest;
 use crate::note::{BreakNote, KeyLevel, LeaseGiven, Note, OpenName, Seen};
-use crate::opens::{Open, is_under};
+use crate::opens::{Open, is_under, may_end};
 use capture_judge::Level;
 use lease_state::{LeaseKey, Memory};
 
@@ -215,6 +217,9 @@ pub(crate) fn push_ended(
 ) -> Result<(), Memory>
     ensures { OnOk result (events.new.items ≡ events.old.items ++ ended made seen.now opens.now) }
 {
+    if !may_end(seen, made) {
+        return Ok(());
+    }
     for one in opens {
         push_ended_lease(events, seen, made, opens, one)?;
     }
@@ -277,32 +282,6 @@ fn push_disputed(events: &mut Vec<Event>, lease: Lease, opens: &[Open]) -> Resul
         events.push(lost(lease.client, NotJudged::Disputed))?;
     }
     Ok(())
-}
-
-// What the server said last of a lease.
-fn last_said(events: &[Event], lease: Lease) -> Option<Said>
-    ensures { result ≡ last_said lease None events.now }
-{
-    let mut found: Option<Said> = None;
-    for event in events {
-        match event {
-            Event::Granted(one) if one.lease.is(lease) => found = Some(one.said()),
-            Event::Broken(one) if one.lease.is(lease) => found = Some(one.said()),
-            Event::Ended(one) if one.lease.is(lease) => found = without_epoch(found),
-            _ => {}
-        }
-    }
-    found
-}
-
-fn without_epoch(said: Option<Said>) -> Option<Said>
-    ensures { result ≡ option_map without_epoch said }
-{
-    let said = said?;
-    Some(Said {
-        epoch: None,
-        ..said
-    })
 }
 
 fn is_newer(before: u16, now: u16) -> bool
@@ -399,26 +378,6 @@ fn push_order(
     Ok(())
 }
 
-fn is_stray_of(lease: Lease, connection: u64, asked: u64, event: &Event) -> bool
-    ensures { result ≡ is_stray_of lease connection asked event.now }
-{
-    match event {
-        Event::Stray(one) => {
-            is_under(Some(lease), one.client, one.key)
-                && !(one.sent.connection == connection || one.sent.position < asked)
-        }
-        _ => false,
-    }
-}
-
-fn has_stray(events: &[Event], lease: Lease, connection: u64, asked: u64) -> bool
-    ensures { result ≡ list_any (is_stray_of lease connection asked) events.now }
-{
-    events
-        .iter()
-        .any(|event| is_stray_of(lease, connection, asked, event))
-}
-
 fn push_strayed(events: &mut Vec<Event>, lease: Lease, is_strayed: bool) -> Result<(), Memory>
     ensures { OnOk result (events.new.items ≡ events.old.items ++ (if is_strayed then dispute lease ∷ [] else [])) }
 {
@@ -467,8 +426,10 @@ fn push_granted(
     given: Option<LeaseGiven>,
     made: Option<Open>,
     opens: &[Open],
+    latest: &Latest,
 ) -> Result<(), Memory>
-    ensures { OnOk result (events.new.items ≡ events.old.items ++ granted_of seen.now given made opens.now events.old.items) }
+    ensures { OnOk result (KnowsLatest events.old.items latest.now → events.new.items
+        ≡ events.old.items ++ granted_of seen.now given made opens.now events.old.items) }
 {
     let (Some(given), Some(one)) = (given, made) else {
         return Ok(());
@@ -476,8 +437,8 @@ fn push_granted(
     let Some(lease) = one.lease else {
         return Ok(());
     };
-    let said = last_said(events, lease);
-    let is_strayed = has_stray(events, lease, seen.connection, one.asked);
+    let said = latest.said(lease);
+    let is_strayed = latest.has_stray(lease, seen.connection, one.asked);
     push_disputed(events, lease, opens)?;
     push_strayed(events, lease, is_strayed)?;
     push_granted_lease(events, seen, given, lease, one.asked, said)
@@ -552,14 +513,16 @@ fn push_broken_lease(
     one: BreakNote,
     client: u64,
     opens: &[Open],
+    latest: &Latest,
 ) -> Result<(), Memory>
-    ensures { OnOk result (events.new.items ≡ events.old.items ++ broken_of seen.now one client
+    ensures { OnOk result (KnowsLatest events.old.items latest.now → events.new.items
+        ≡ events.old.items ++ broken_of seen.now one client
         (lease_under (Some client) one.key.0 opens.now) opens.now events.old.items) }
 {
     let Some(lease) = lease_under(opens, Some(client), one.key) else {
         return push_stray(events, seen, one, client);
     };
-    let said = last_said(events, lease);
+    let said = latest.said(lease);
     let broken = break_of(seen, one, lease, said);
     push_disputed(events, lease, opens)?;
     push_order(events, lease, said, broken.said(), None)?;
@@ -573,28 +536,15 @@ fn push_broken(
     one: BreakNote,
     client: Option<u64>,
     opens: &[Open],
+    latest: &Latest,
 ) -> Result<(), Memory>
-    ensures { OnOk result (events.new.items ≡ events.old.items ++ broken seen.now one client opens.now events.old.items) }
+    ensures { OnOk result (KnowsLatest events.old.items latest.now → events.new.items
+        ≡ events.old.items ++ broken seen.now one client opens.now events.old.items) }
 {
     match client {
-        Some(client) => push_broken_lease(events, seen, one, client, opens),
+        Some(client) => push_broken_lease(events, seen, one, client, opens, latest),
         None => push_strange_break(events, one.key, opens),
     }
-}
-
-// The last break of a lease.
-fn last_break(events: &[Event], lease: Lease) -> Option<Sent>
-    ensures { result ≡ last_break lease None events.now }
-{
-    let mut found = None;
-    for event in events {
-        if let Event::Broken(one) = event {
-            if one.lease.is(lease) {
-                found = Some(one.sent);
-            }
-        }
-    }
-    found
 }
 
 // That a break was taken.
@@ -620,14 +570,15 @@ fn push_acknowledged(
     seen: &Seen<'_>,
     given: KeyLevel,
     lease: Option<Lease>,
+    latest: &Latest,
 ) -> Result<(), Memory>
-    ensures { OnOk result (events.new.items
+    ensures { OnOk result (KnowsLatest events.old.items latest.now → events.new.items
         ≡ events.old.items ++ acknowledged seen.now given lease events.old.items) }
 {
     let Some(lease) = lease else {
         return Ok(());
     };
-    let sent = last_break(events, lease);
+    let sent = latest.broken(lease);
     events.push(Event::Acknowledged(Acknowledged {
         lease,
         level: given.level,
@@ -715,7 +666,7 @@ pub(crate) fn push_remade(events: &mut Vec<Event>, remade: Option<Remade>) -> Re
 }
 
 /// What a message shows besides, by the client of its connection, the open that it makes, from where on something is missing if
-/// it is a gap, and the opens before it.
+/// it is a gap, the opens before it, and what the events before say last.
 pub(crate) fn push_told(
     events: &mut Vec<Event>,
     seen: &Seen<'_>,
@@ -723,19 +674,21 @@ pub(crate) fn push_told(
     made: Option<Open>,
     since: u64,
     opens: &[Open],
+    latest: &Latest,
 ) -> Result<(), Memory>
-    ensures { OnOk result (events.new.items ≡ events.old.items ++ told_by seen.now.note seen.now client made since opens.now
-        events.old.items) }
+    ensures { OnOk result (KnowsLatest events.old.items latest.now → events.new.items
+        ≡ events.old.items ++ told_by seen.now.note seen.now client made since opens.now events.old.items) }
 {
     match seen.note {
-        Note::CreateGiven(given) => push_granted(events, seen, given.lease, made, opens),
+        Note::CreateGiven(given) => push_granted(events, seen, given.lease, made, opens, latest),
         Note::OnOpen(name) | Note::Close(name) => {
             push_proof(events, seen, open_named(opens, seen.server, name))
         }
         Note::Acknowledge(given) => {
-            push_acknowledged(events, seen, given, lease_under(opens, client, given.key))
+            let lease = lease_under(opens, client, given.key);
+            push_acknowledged(events, seen, given, lease, latest)
         }
-        Note::Break(one) => push_broken(events, seen, one, client, opens),
+        Note::Break(one) => push_broken(events, seen, one, client, opens, latest),
         Note::Gone(id) => {
             let asked = last_asked(events, seen.connection, id);
             push_gone(events, asked)

@@ -3,15 +3,16 @@ ghost use Rattle.capture_walk.specs.Clients.{guid_of};
 ghost use Rattle.capture_walk.specs.Files.{place_of_life, place_view};
 ghost use Rattle.std.specs.Option.{option_map};
 ghost use Rattle.capture_walk.specs.Opens.{KnowsFiles, held_after, is_left, lives, made, remade};
-ghost use Rattle.capture_walk.specs.Events.{Knows, HasSameButFiles, HasOpens, events};
+ghost use Rattle.capture_walk.specs.Events.{Knows, KnowsLatest, HasSameButFiles, HasSameButEvents, HasOpens, ended, events, heard, told_by, told_remade};
 ghost use Rattle.capture_walk.specs.declared.note.Seen.{Seen};
 
 use crate::clients::Clients;
 use crate::creates::Creates;
 use crate::event::{Event, Remade};
 use crate::files::{Files, Place};
+use crate::latest::Latest;
 use crate::note::Seen;
-use crate::opens::{Open, open_given, place_of};
+use crate::opens::{Open, may_end, open_given, place_of};
 use crate::renames::Renames;
 use crate::sides::Sides;
 use crate::telling::{push_ended, push_heard, push_remade, push_told};
@@ -32,6 +33,7 @@ pub struct Walk {
     // The newest first.
     opens: Vec<Open>,
     events: Vec<Event>,
+    latest: Latest,
 }
 
 impl Walk {
@@ -48,6 +50,7 @@ impl Walk {
             files: Files::new(alloc),
             opens: Vec::new(alloc),
             events: Vec::new(alloc),
+            latest: Latest::new(alloc),
         }
     }
 
@@ -88,10 +91,61 @@ impl Walk {
         )
     }
 
+    #[tactic(auto, using(crate::proofs::Ends::left_all))]
     fn drop_opens(&mut self, seen: &Seen<'_>, made: Option<Open>)
         ensures { HasOpens (filter (is_left made seen.now) self.old.opens.items) self.old self.new }
     {
-        self.opens.retain(|one| !one.ends(seen, made));
+        if may_end(seen, made) {
+            self.opens.retain(|one| !one.ends(seen, made));
+        }
+    }
+
+    // The request or answer that the message is, what ends with it, and the file in whose place it makes another one.
+    fn show_ends(
+        &mut self,
+        seen: &Seen<'_>,
+        client: Option<u64>,
+        made: Option<Open>,
+        remade: Option<Remade>,
+    ) -> Result<(), Memory>
+        ensures same { OnOk result (HasSameButEvents self.old self.new) }
+        ensures shown { OnOk result (self.new.events.items
+            ≡ ((self.old.events.items ++ heard seen.now client self.old.opens.items)
+            ++ ended made seen.now self.old.opens.items) ++ told_remade remade) }
+        ensures latest { OnOk result (KnowsLatest self.old.events.items self.old.latest
+            → KnowsLatest self.new.events.items self.new.latest) }
+    {
+        push_heard(&mut self.events, seen, client, &self.opens)?;
+        push_ended(&mut self.events, seen, made, &self.opens)?;
+        push_remade(&mut self.events, remade)?;
+        self.latest.take(&self.events)
+    }
+
+    // What the message shows besides.
+    fn show_told(
+        &mut self,
+        seen: &Seen<'_>,
+        client: Option<u64>,
+        made: Option<Open>,
+        since: u64,
+    ) -> Result<(), Memory>
+        ensures same { OnOk result (HasSameButEvents self.old self.new) }
+        ensures shown { OnOk result (KnowsLatest self.old.events.items self.old.latest → self.new.events.items
+            ≡ self.old.events.items
+            ++ told_by seen.now.note seen.now client made since self.old.opens.items self.old.events.items) }
+        ensures latest { OnOk result (KnowsLatest self.old.events.items self.old.latest
+            → KnowsLatest self.new.events.items self.new.latest) }
+    {
+        push_told(
+            &mut self.events,
+            seen,
+            client,
+            made,
+            since,
+            &self.opens,
+            &self.latest,
+        )?;
+        self.latest.take(&self.events)
     }
 
     // The opens after the message.
@@ -117,11 +171,9 @@ impl Walk {
         let remade = self.remade(seen);
         let made = self.name_files(seen)?;
         let client = self.clients.of(seen.connection);
-        push_heard(&mut self.events, seen, client, &self.opens)?;
-        push_ended(&mut self.events, seen, made, &self.opens)?;
-        push_remade(&mut self.events, remade)?;
+        self.show_ends(seen, client, made, remade)?;
         let since = self.sides.missing_since(seen.connection);
-        push_told(&mut self.events, seen, client, made, since, &self.opens)?;
+        self.show_told(seen, client, made, since)?;
         self.change_opens(seen, made)?;
         self.clients.note(seen)?;
         self.sides.note(seen)?;
@@ -146,7 +198,8 @@ impl Walk {
 
     /// What the messages so far show of leases, in the order of the capture.
     pub fn events(&self) -> &[Event]
-        ensures { (past : List Seen) → Knows past self.now → result.now ≡ events past }
+        ensures items { result.now ≡ self.now.events.items }
+        ensures shown { (past : List Seen) → Knows past self.now → result.now ≡ events past }
     {
         &self.events
     }

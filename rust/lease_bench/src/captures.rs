@@ -4,8 +4,8 @@ use std::prelude::Vec;
 
 use leasecheck::proved::capture_judge::Level;
 use leasecheck::proved::capture_walk::{
-    BreakNote, CreateAsked, CreateGiven, KeyLevel, LeaseGiven, Note, OpenName, Seen, TreeAsked, TreeGiven, Walk, chains_on,
-    files_in,
+    BreakNote, CreateAsked, CreateGiven, Index, KeyLevel, LeaseGiven, Note, OpenName, Seen, TreeAsked, TreeGiven, Walk,
+    chains_on,
 };
 use leasecheck::proved::capture_wire::{Guid, Smb2FileId};
 use smblease::proved::lease_state::{LeaseKey, LeaseState, Memory};
@@ -162,8 +162,9 @@ fn capture_of(alloc: Global, traffic: Traffic) -> Result<Capture, Memory> {
 // How many chains and changes there are of all files.
 fn count_changes(alloc: Global, walk: &Walk) -> Result<(u64, u64), Memory> {
     let (mut chains, mut changes) = (0u64, 0u64);
-    for file in &files_in(alloc, walk.events())? {
-        for chain in &chains_on(alloc, *file, walk.events())? {
+    let index = Index::of(alloc, walk.events())?;
+    for file in index.files() {
+        for chain in &chains_on(alloc, *file, walk.events(), &index)? {
             chains = chains.wrapping_add(1);
             changes = changes.wrapping_add(chain.changes.len() as u64);
         }

@@ -1,8 +1,10 @@
-use Rattle.std.proofs.Common.{◌≡◌, ◌++◌, drop, filter}
-use Rattle.capture_walk.specs.Chains.{changes, is_known}
+use Rattle.std.proofs.Common.{◌≡◌, ◌++◌, drop}
+use Rattle.capture_walk.specs.Index.{from_places, places_at}
+use Rattle.capture_walk.specs.Tails.{changes_in}
 use Rattle.capture_walk.proofs.chains.changes_of.Given as goal
 
-abbrev pub invariant-loop-index : goal.invariant-loop-index
-invariant-loop-index l =
-    l.changes.items ++ changes l.lease (filter (is_known l.since) (drop l.index l.events))
-    ≡ changes l.lease (filter (is_known l.since) l.events)
+-- what is left gives the whole
+abbrev pub invariant-loop-number : goal.invariant-loop-number
+invariant-loop-number l =
+    l.changes.items ++ changes_in l.lease l.since (from_places l.events (drop l.number l.places))
+    ≡ changes_in l.lease l.since (from_places l.events (places_at l.index.places l.lease))

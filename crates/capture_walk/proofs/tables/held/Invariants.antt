@@ -1,10 +1,10 @@
-use Rattle.std.proofs.Common.{◌≡◌, ◌++◌, drop, filter}
-use Rattle.capture_walk.specs.Chains.{is_known}
-use Rattle.capture_walk.specs.Tables.{held}
+use Rattle.std.proofs.Common.{◌≡◌, ◌++◌, drop}
+use Rattle.capture_walk.specs.Index.{from_places, places_at}
+use Rattle.capture_walk.specs.Tails.{held_in}
 use Rattle.capture_walk.proofs.tables.held.Given as goal
 
 -- what is left gives the whole
-abbrev pub invariant-loop-index : goal.invariant-loop-index
-invariant-loop-index l =
-    l.changes.items ++ held l.lease l.broken (filter (is_known l.since) (drop l.index l.events))
-    ≡ held l.lease 0 (filter (is_known l.since) l.events)
+abbrev pub invariant-loop-number : goal.invariant-loop-number
+invariant-loop-number l =
+    l.changes.items ++ held_in l.lease l.since l.broken (from_places l.events (drop l.number l.places))
+    ≡ held_in l.lease l.since 0 (from_places l.events (places_at l.index.places l.lease))

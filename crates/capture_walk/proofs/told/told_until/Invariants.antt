@@ -1,8 +1,10 @@
 use Rattle.std.proofs.Common.{◌≡◌, drop, None}
-use Rattle.capture_walk.specs.Told.{told_until}
+use Rattle.capture_walk.specs.Index.{from_places, places_at}
+use Rattle.capture_walk.specs.Tails.{told_in}
 use Rattle.capture_walk.proofs.told.told_until.Given as goal
 
 -- what is left gives the whole
-abbrev pub invariant-loop-event : goal.invariant-loop-event
-invariant-loop-event l =
-    told_until l.lease l.until l.found (drop l.event-index l.events) ≡ told_until l.lease l.until None l.events
+abbrev pub invariant-loop-place : goal.invariant-loop-place
+invariant-loop-place l =
+    told_in l.lease l.until l.found (from_places l.events (drop l.place-index l.place-items))
+    ≡ told_in l.lease l.until None (from_places l.events (places_at l.index.places l.lease))

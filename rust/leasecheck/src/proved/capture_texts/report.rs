@@ -10,7 +10,7 @@ use crate::proved::capture_texts::finding::{
 };
 use crate::proved::capture_texts::line::Moment;
 use crate::proved::capture_walk::{
-    Acknowledged, Break, Event, LeaseTold, Loss, Misnumbered, Place, chains_on, files_in, leases_told, tables_on,
+    Acknowledged, Break, Event, Index, LeaseTold, Loss, Misnumbered, Place, chains_on, leases_told, tables_on,
 };
 use smblease::proved::lease_state::{Bytes, Memory};
 use std::alloc::Global;
@@ -209,41 +209,46 @@ impl Capture {
     }
 
     // What was said of the leases on a file up to a position.
-    fn leases_until(&self, alloc: Global, file: u64, position: u64) -> Result<Vec<LeaseFinding>, Memory> {
+    fn leases_until(&self, alloc: Global, index: &Index, file: u64, position: u64) -> Result<Vec<LeaseFinding>, Memory> {
         let mut findings = Vec::new(alloc);
-        for told in &leases_told(alloc, file, position, self.walking.walk.events())? {
+        for told in &leases_told(alloc, file, position, self.walking.walk.events(), index)? {
             findings.push(self.lease_finding(alloc, told)?)?;
         }
         Ok(findings)
     }
 
     // The same where something clashes.
-    fn lease_findings(&self, alloc: Global, file: u64, until: Option<u64>) -> Result<Vec<LeaseFinding>, Memory> {
+    fn lease_findings(&self, alloc: Global, index: &Index, file: u64, until: Option<u64>) -> Result<Vec<LeaseFinding>, Memory> {
         match until {
-            Some(position) => self.leases_until(alloc, file, position),
+            Some(position) => self.leases_until(alloc, index, file, position),
             None => Ok(Vec::new(alloc)),
         }
     }
 
     // What is found of a file.
-    fn file_finding(&self, alloc: Global, file: u64) -> Result<FileFinding, Memory> {
-        let chains = chains_on(alloc, file, self.walking.walk.events())?;
-        let tables = tables_on(alloc, file, self.walking.walk.events())?;
+    fn file_finding(&self, alloc: Global, index: &Index, file: u64) -> Result<FileFinding, Memory> {
+        let chains = chains_on(alloc, file, self.walking.walk.events(), index)?;
+        let tables = tables_on(alloc, file, self.walking.walk.events(), index)?;
         let place = match self.walking.walk.place_of(file) {
             Some(place) => Some(self.file_place(alloc, place)?),
             None => None,
         };
         let (judged, beliefs) = judge_both(alloc, &chains, &tables, &self.kept)?;
-        let leases = self.lease_findings(alloc, file, judged.until())?;
+        let leases = self.lease_findings(alloc, index, file, judged.until())?;
         Ok(FileFinding { file, place, judged, clients: self.clients_of(alloc, &chains)?, beliefs, leases })
     }
 
-    fn file_findings(&self, alloc: Global) -> Result<Vec<FileFinding>, Memory> {
+    fn findings_by(&self, alloc: Global, index: &Index) -> Result<Vec<FileFinding>, Memory> {
         let mut findings = Vec::new(alloc);
-        for file in &files_in(alloc, self.walking.walk.events())? {
-            findings.push(self.file_finding(alloc, *file)?)?;
+        for file in index.files() {
+            findings.push(self.file_finding(alloc, index, *file)?)?;
         }
         Ok(findings)
+    }
+
+    fn file_findings(&self, alloc: Global) -> Result<Vec<FileFinding>, Memory> {
+        let index = Index::of(alloc, self.walking.walk.events())?;
+        self.findings_by(alloc, &index)
     }
 
     fn client_finding(&self, alloc: Global, loss: Loss) -> Result<ClientFinding, Memory> {

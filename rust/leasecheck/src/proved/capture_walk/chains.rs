@@ -4,6 +4,8 @@ use std::prelude::Vec;
 
 use crate::proved::capture_judge::{Chain, Change, Level};
 use crate::proved::capture_walk::event::{Acknowledged, Asked, Break, Event, Grant, Lease, Sent};
+use crate::proved::capture_walk::index::Index;
+use crate::proved::capture_walk::slices::from;
 use smblease::proved::lease_state::Memory;
 use std::alloc::Global;
 
@@ -30,7 +32,10 @@ pub(crate) fn is_known(since: Option<u64>, event: &Event) -> bool {
 }
 
 // The position at which a message of the server is first shown to have been taken.
-fn taken(sent: Sent, later: &[Event], since: Option<u64>) -> Option<u64> {
+fn taken(sent: Sent, later: &[Event], since: Option<u64>, index: &Index) -> Option<u64> {
+    if !index.may_be_taken(sent) {
+        return None;
+    }
     for event in later {
         if let Event::Taken(proof) = event {
             if proof.connection == sent.connection && sent.number <= proof.number && is_known(since, event) {
@@ -75,6 +80,23 @@ pub(crate) fn acknowledgment(lease: Lease, later: &[Event], since: Option<u64>) 
     None
 }
 
+/// The acknowledgment of a break of a lease that the server accepts, by where the events are that are about the lease after it.
+pub(crate) fn acknowledgment_at(lease: Lease, places: &[usize], events: &[Event], since: Option<u64>) -> Option<Acknowledged> {
+    for place in places {
+        if let [event, later @ ..] = from(events, *place) {
+            match event {
+                _ if !is_known(since, event) => {}
+                Event::Acknowledged(given) if is_accepted(lease, given, later, since) => {
+                    return Some(*given);
+                }
+                Event::Broken(broken) if broken.lease.is(lease) => return None,
+                _ => {}
+            }
+        }
+    }
+    None
+}
+
 fn is_for(lease: Lease, other: Option<Lease>) -> bool {
     match other {
         Some(other) => other.is(lease),
@@ -100,7 +122,10 @@ fn is_gone(number: u64, event: &Event) -> bool {
 }
 
 // Whether the server is found to have ended the open that was made with a message.
-fn has_gone(number: u64, later: &[Event], since: Option<u64>) -> bool {
+fn has_gone(number: u64, later: &[Event], since: Option<u64>, index: &Index) -> bool {
+    if !index.may_be_gone(number) {
+        return false;
+    }
     for event in later {
         if is_known(since, event) && is_gone(number, event) {
             return true;
@@ -110,23 +135,19 @@ fn has_gone(number: u64, later: &[Event], since: Option<u64>) -> bool {
 }
 
 // Whether the request shows the lease, where the open that was made with the message is known to be there or not.
-fn shows(lease: Lease, sent: Sent, is_live: bool, one: &Asked, later: &[Event], since: Option<u64>) -> bool {
+fn shows(lease: Lease, sent: Sent, is_live: bool, one: &Asked, later: &[Event], since: Option<u64>, index: &Index) -> bool {
     if is_use(lease, sent.number, one) {
         return answer(lease, one.connection, one.id, later, since).unwrap_or(false);
     }
     is_live
         && one.connection == sent.connection
-        && !has_gone(sent.number, later, since)
+        && !has_gone(sent.number, later, since, index)
         && answer(lease, one.connection, one.id, later, since).is_some()
 }
 
 // Whether nothing of the lease is sure from the break on.
 fn cuts(lease: Lease, broken: &Break, later: &[Event], since: Option<u64>) -> bool {
-    broken.lease.is(lease)
-        && match acknowledgment(lease, later, since) {
-            Some(_) => false,
-            None => broken.acknowledged,
-        }
+    broken.lease.is(lease) && broken.acknowledged && acknowledgment(lease, later, since).is_none()
 }
 
 fn shown_before(broken: &Break, found: Option<Asked>) -> Option<Asked> {
@@ -135,20 +156,21 @@ fn shown_before(broken: &Break, found: Option<Asked>) -> Option<Asked> {
 }
 
 /// The last request that shows a lease after a message of the server.
-pub(crate) fn last_shown(lease: Lease, sent: Sent, later: &[Event], since: Option<u64>) -> Option<Asked> {
+pub(crate) fn last_shown(lease: Lease, sent: Sent, later: &[Event], since: Option<u64>, index: &Index) -> Option<Asked> {
     let mut is_live = false;
     let mut found: Option<Asked> = None;
-    for (index, event) in later.iter().enumerate() {
+    for (place, event) in later.iter().enumerate() {
+        let rest = from(later, place + 1);
         match event {
             _ if !is_known(since, event) => {}
-            Event::Asked(one) if shows(lease, sent, is_live, one, &later[index + 1..], since) => {
+            Event::Asked(one) if shows(lease, sent, is_live, one, rest, since, index) => {
                 is_live = is_live || is_own(lease, sent.number, one);
                 found = Some(*one);
             }
             Event::Closed(one) => is_live = is_live && one.opened != sent.number,
             Event::Gone(one) => is_live = is_live && one.opened != sent.number,
             Event::Ended(end) if end.lease.is(lease) => return found,
-            Event::Broken(broken) if cuts(lease, broken, &later[index + 1..], since) => {
+            Event::Broken(broken) if cuts(lease, broken, rest, since) => {
                 return shown_before(broken, found);
             }
             _ => {}
@@ -171,12 +193,18 @@ fn sure_by(last: Option<u64>, shown: Option<Asked>) -> Option<u64> {
 }
 
 // What a grant gives, where these events come after it.
-fn push_granted(changes: &mut Vec<Change>, grant: &Grant, later: &[Event], since: Option<u64>) -> Result<(), Memory> {
-    let shown = last_shown(grant.lease, grant.sent, later, since);
+fn push_granted(
+    changes: &mut Vec<Change>,
+    grant: &Grant,
+    later: &[Event],
+    since: Option<u64>,
+    index: &Index,
+) -> Result<(), Memory> {
+    let shown = last_shown(grant.lease, grant.sent, later, since, index);
     changes.push(Change {
         level: grant.level,
         first: grant.sent.position,
-        last: sure_by(taken(grant.sent, later, since), shown),
+        last: sure_by(taken(grant.sent, later, since, index), shown),
     })?;
     match shown {
         Some(one) => push_doubt(changes, true, one.position),
@@ -192,76 +220,80 @@ pub(crate) fn kept_until(last: u64, shown: Option<Asked>) -> u64 {
     }
 }
 
-// What a break leaves, where these events come after it.
-fn push_broken(changes: &mut Vec<Change>, broken: &Break, later: &[Event], since: Option<u64>) -> Result<(), Memory> {
+// What a break leaves, where it is acknowledged so, and these events come after it.
+fn push_broken(
+    changes: &mut Vec<Change>,
+    broken: &Break,
+    given: Option<Acknowledged>,
+    later: &[Event],
+    since: Option<u64>,
+    index: &Index,
+) -> Result<(), Memory> {
     let first = broken.sent.position;
-    match acknowledgment(broken.lease, later, since) {
+    match given {
         Some(given) => {
             changes.push(Change { level: given.level, first, last: Some(given.last) })?;
-            let shown = last_shown(broken.lease, broken.sent, later, since);
+            let shown = last_shown(broken.lease, broken.sent, later, since, index);
             push_doubt(changes, true, kept_until(given.last, shown))
         }
         None if broken.acknowledged => Ok(()),
         None => {
-            changes.push(Change { level: broken.level, first, last: taken(broken.sent, later, since) })?;
+            changes.push(Change { level: broken.level, first, last: taken(broken.sent, later, since, index) })?;
             Ok(())
         }
     }
 }
 
-// The changes that an event makes of a lease, where these come after it.
+// The changes that an event makes of a lease, where a break by it is acknowledged so, and these events come after it.
 fn push_changes(
     changes: &mut Vec<Change>,
     lease: Lease,
     event: &Event,
+    given: Option<Acknowledged>,
     later: &[Event],
     since: Option<u64>,
+    index: &Index,
 ) -> Result<(), Memory> {
     match event {
-        Event::Granted(grant) if grant.lease.is(lease) => push_granted(changes, grant, later, since)?,
-        Event::Broken(broken) if broken.lease.is(lease) => push_broken(changes, broken, later, since)?,
+        Event::Granted(grant) if grant.lease.is(lease) => push_granted(changes, grant, later, since, index),
+        Event::Broken(broken) if broken.lease.is(lease) => push_broken(changes, broken, given, later, since, index),
         Event::Ended(end) if end.lease.is(lease) => {
-            changes.push(Change { level: Level::Nothing, first: end.first, last: Some(end.last) })?
+            changes.push(Change { level: Level::Nothing, first: end.first, last: Some(end.last) })?;
+            Ok(())
         }
-        _ => {}
+        _ => Ok(()),
     }
-    Ok(())
+}
+
+// The changes by the first of these events, where these are the places of those about the lease after it.
+fn push_first(
+    changes: &mut Vec<Change>,
+    lease: Lease,
+    from: &[Event],
+    places: &[usize],
+    events: &[Event],
+    since: Option<u64>,
+    index: &Index,
+) -> Result<(), Memory> {
+    let [event, later @ ..] = from else {
+        return Ok(());
+    };
+    if !is_known(since, event) {
+        return Ok(());
+    }
+    let given = acknowledgment_at(lease, places, events, since);
+    push_changes(changes, lease, event, given, later, since, index)
 }
 
 // All changes of a lease, by the events that count.
-fn changes_of(alloc: Global, lease: Lease, events: &[Event], since: Option<u64>) -> Result<Vec<Change>, Memory> {
+fn changes_of(alloc: Global, lease: Lease, events: &[Event], since: Option<u64>, index: &Index) -> Result<Vec<Change>, Memory> {
     let mut changes = Vec::new(alloc);
-    for (index, event) in events.iter().enumerate() {
-        if is_known(since, event) {
-            push_changes(&mut changes, lease, event, &events[index + 1..], since)?;
-        }
+    let places = index.places(lease);
+    for (number, place) in places.iter().enumerate() {
+        let rest = &places[number + 1..];
+        push_first(&mut changes, lease, from(events, *place), rest, events, since, index)?;
     }
     Ok(changes)
-}
-
-fn earliest(found: Option<u64>, since: u64) -> u64 {
-    match found {
-        Some(other) if since < other => since,
-        Some(other) => other,
-        None => since,
-    }
-}
-
-/// From which position on something of a lease's client may be missing, or its file may be another one.
-pub(crate) fn lost_since(lease: Lease, events: &[Event]) -> Option<u64> {
-    let mut found: Option<u64> = None;
-    for event in events {
-        match event {
-            Event::Lost(loss) if loss.client == lease.client => {
-                found = Some(earliest(found, loss.since));
-            }
-            Event::Remade(one) if one.file == lease.file => {
-                found = Some(earliest(found, one.since));
-            }
-            _ => {}
-        }
-    }
-    found
 }
 
 /// From where on something may be missing any lease may be lost.
@@ -274,28 +306,11 @@ pub(crate) fn cut_off(since: Option<u64>, changes: &mut Vec<Change>) -> Result<(
 }
 
 // The changes of a lease up to where something of its client may be missing.
-fn known_changes(alloc: Global, lease: Lease, events: &[Event]) -> Result<Vec<Change>, Memory> {
-    let since = lost_since(lease, events);
-    let mut changes = changes_of(alloc, lease, events, since)?;
+fn known_changes(alloc: Global, lease: Lease, events: &[Event], index: &Index) -> Result<Vec<Change>, Memory> {
+    let since = index.lost_since(lease);
+    let mut changes = changes_of(alloc, lease, events, since, index)?;
     cut_off(since, &mut changes)?;
     Ok(changes)
-}
-
-fn is_among(leases: &[Lease], lease: Lease) -> bool {
-    leases.iter().any(|one| lease.is(*one))
-}
-
-/// The leases on a file.
-pub(crate) fn leases_on(alloc: Global, file: u64, events: &[Event]) -> Result<Vec<Lease>, Memory> {
-    let mut leases: Vec<Lease> = Vec::new(alloc);
-    for event in events {
-        if let Event::Granted(grant) = event {
-            if grant.lease.file == file && !is_among(&leases, grant.lease) {
-                leases.push(grant.lease)?;
-            }
-        }
-    }
-    Ok(leases)
 }
 
 /// The chain of a lease, where any changes of it are known.
@@ -310,31 +325,14 @@ pub(crate) fn push_chain(chains: &mut Vec<Chain>, client: u64, changes: Vec<Chan
 /// happen, for `capture_judge::judge_placing`. From where something of a client may be missing it may have lost its leases,
 /// and what comes later doesn't count. The events are in the order of the capture.
 ///
-/// Fails where there is no memory.
-pub fn chains_on(alloc: Global, file: u64, events: &[Event]) -> Result<Vec<Chain>, Memory> {
+/// # Errors
+///
+/// `Memory` where there is none left.
+pub fn chains_on(alloc: Global, file: u64, events: &[Event], index: &Index) -> Result<Vec<Chain>, Memory> {
     let mut chains = Vec::new(alloc);
-    for lease in &leases_on(alloc, file, events)? {
-        let changes = known_changes(alloc, *lease, events)?;
+    for lease in index.leases_on(file) {
+        let changes = known_changes(alloc, *lease, events, index)?;
         push_chain(&mut chains, lease.client, changes)?;
     }
     Ok(chains)
-}
-
-fn has_file(files: &[u64], wanted: u64) -> bool {
-    files.iter().any(|file| *file == wanted)
-}
-
-/// The numbers of the files on which leases are granted, in the order in which they come.
-///
-/// Fails where there is no memory.
-pub fn files_in(alloc: Global, events: &[Event]) -> Result<Vec<u64>, Memory> {
-    let mut files: Vec<u64> = Vec::new(alloc);
-    for event in events {
-        if let Event::Granted(grant) = event {
-            if !has_file(&files, grant.lease.file) {
-                files.push(grant.lease.file)?;
-            }
-        }
-    }
-    Ok(files)
 }

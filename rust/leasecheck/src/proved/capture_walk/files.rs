@@ -4,6 +4,7 @@ use std::prelude::Vec;
 
 use smblease::proved::lease_state::{Bytes, Memory};
 use std::alloc::Global;
+use std::collections::BTreeMap;
 
 /// Where a file is.
 #[derive(Clone, Copy, Debug)]
@@ -18,18 +19,42 @@ pub struct Place<'a> {
     pub creation_time: u64,
 }
 
-// The file at a place.
+// A place, with memory of its own.
 #[derive(Debug)]
-pub(crate) struct Named {
+pub(crate) struct OwnPlace {
     server: u64,
     path: Bytes,
     name: Bytes,
     creation_time: u64,
-    file: u64,
 }
 
+impl OwnPlace {
+    fn new(alloc: Global, place: Place<'_>) -> Result<OwnPlace, Memory> {
+        Ok(OwnPlace {
+            server: place.server,
+            path: Bytes::new(Vec::from_slice(alloc, place.path)?),
+            name: Bytes::new(Vec::from_slice(alloc, place.name)?),
+            creation_time: place.creation_time,
+        })
+    }
+
+    fn place(&self) -> Place<'_> {
+        Place { server: self.server, path: self.path.as_slice(), name: self.name.as_slice(), creation_time: self.creation_time }
+    }
+}
+
+/// What tells files of one name on one share apart.
+#[derive(Clone, Copy, Debug, PartialEq, Eq, PartialOrd, Ord)]
+pub(crate) struct Spot {
+    server: u64,
+    creation_time: u64,
+}
+
+// Files on a share, by their names.
+type Names = BTreeMap<Vec<u8>, BTreeMap<Spot, u64>>;
+
 /// A file on a disk of a server.
-#[derive(Clone, Copy, Debug)]
+#[derive(Clone, Copy, Debug, PartialEq, Eq, PartialOrd, Ord)]
 pub(crate) struct Identity {
     pub(crate) server: u64,
     // DiskFileId and VolumeId
@@ -37,21 +62,6 @@ pub(crate) struct Identity {
     pub(crate) volume: u64,
     // A server may give an id again once a file is gone.
     pub(crate) creation_time: u64,
-}
-
-impl Identity {
-    fn is(self, other: Identity) -> bool {
-        self.server == other.server
-            && self.creation_time == other.creation_time
-            && (self.file == other.file && self.volume == other.volume)
-    }
-}
-
-// The file that has an identity.
-#[derive(Clone, Copy, Debug)]
-pub(crate) struct Identified {
-    identity: Identity,
-    file: u64,
 }
 
 /// What a CREATE response's file is known by.
@@ -67,22 +77,13 @@ pub(crate) struct Naming<'a> {
 /// The files that are known, with the numbers of the messages with which their lives began.
 #[derive(Debug)]
 pub(crate) struct Files {
-    // Those that are known by their names. The newest first, as in the other lists.
-    named: Vec<Named>,
+    alloc: Global,
+    // Those that are known by their names, by what names their shares.
+    named: BTreeMap<Vec<u8>, Names>,
     // Those of which it is known what they are on a disk.
-    identified: Vec<Identified>,
-    // All.
-    begun: Vec<Named>,
-}
-
-fn named_at(alloc: Global, place: Place<'_>, file: u64) -> Result<Named, Memory> {
-    Ok(Named {
-        server: place.server,
-        path: Bytes::new(Vec::from_slice(alloc, place.path)?),
-        name: Bytes::new(Vec::from_slice(alloc, place.name)?),
-        creation_time: place.creation_time,
-        file,
-    })
+    identified: BTreeMap<Identity, u64>,
+    // The places at which all began, by their numbers.
+    begun: BTreeMap<u64, OwnPlace>,
 }
 
 // What stands behind a unit, where that is a backslash, else what stands behind the last one before it.
@@ -101,33 +102,53 @@ fn share_of(path: &[u8]) -> &[u8] {
     share
 }
 
+fn spot_of(place: Place<'_>) -> Spot {
+    Spot { server: place.server, creation_time: place.creation_time }
+}
+
+fn find_spot(spots: &BTreeMap<Spot, u64>, place: Place<'_>) -> Option<u64> {
+    match spots.get(&spot_of(place)) {
+        Some(file) => Some(*file),
+        None => None,
+    }
+}
+
+// The file at a place, by the names on its share.
+fn find_name(names: &Names, place: Place<'_>) -> Option<u64> {
+    match names.get(place.name) {
+        Some(spots) => find_spot(spots, place),
+        None => None,
+    }
+}
+
+// From here on a place leads to a file, by the names on its share.
+fn put_name(alloc: Global, names: &mut Names, place: Place<'_>, file: u64) -> Result<(), Memory> {
+    let spot = spot_of(place);
+    match names.get_mut(place.name) {
+        Some(spots) => {
+            spots.insert(spot, file)?;
+        }
+        None => {
+            let mut spots = BTreeMap::new(alloc);
+            spots.insert(spot, file)?;
+            names.insert(Vec::from_slice(alloc, place.name)?, spots)?;
+        }
+    }
+    Ok(())
+}
+
 impl Files {
     /// None. Allocates nothing.
     pub(crate) fn new(alloc: Global) -> Files {
-        Files { named: Vec::new(alloc), identified: Vec::new(alloc), begun: Vec::new(alloc) }
+        Files { alloc, named: BTreeMap::new(alloc), identified: BTreeMap::new(alloc), begun: BTreeMap::new(alloc) }
     }
 
     /// The file at a place.
     pub(crate) fn find(&self, place: Place<'_>) -> Option<u64> {
-        for one in &self.named {
-            if one.server == place.server
-                && one.creation_time == place.creation_time
-                && share_of(one.path.as_slice()) == share_of(place.path)
-                && one.name.as_slice() == place.name
-            {
-                return Some(one.file);
-            }
+        match self.named.get(share_of(place.path)) {
+            Some(names) => find_name(names, place),
+            None => None,
         }
-        None
-    }
-
-    fn find_identified(&self, identity: Identity) -> Option<u64> {
-        for one in &self.identified {
-            if one.identity.is(identity) {
-                return Some(one.file);
-            }
-        }
-        None
     }
 
     fn find_at(&self, place: Option<Place<'_>>) -> Option<u64> {
@@ -135,7 +156,10 @@ impl Files {
     }
 
     fn find_as(&self, identity: Option<Identity>) -> Option<u64> {
-        self.find_identified(identity?)
+        match self.identified.get(&identity?) {
+            Some(file) => Some(*file),
+            None => None,
+        }
     }
 
     // The file that is known by this.
@@ -150,27 +174,29 @@ impl Files {
     }
 
     fn begin(&mut self, place: Place<'_>, file: u64) -> Result<(), Memory> {
-        let named = named_at(*self.begun.allocator(), place, file)?;
-        self.begun.insert(0, named)?;
+        let own = OwnPlace::new(self.alloc, place)?;
+        self.begun.insert(file, own)?;
         Ok(())
     }
 
     // From here on the place leads to the file.
     fn place(&mut self, place: Place<'_>, file: u64) -> Result<(), Memory> {
-        if self.find(place) == Some(file) {
-            return Ok(());
+        let alloc = self.alloc;
+        let share = share_of(place.path);
+        match self.named.get_mut(share) {
+            Some(names) => put_name(alloc, names, place, file)?,
+            None => {
+                let mut names = BTreeMap::new(alloc);
+                put_name(alloc, &mut names, place, file)?;
+                self.named.insert(Vec::from_slice(alloc, share)?, names)?;
+            }
         }
-        let named = named_at(*self.named.allocator(), place, file)?;
-        self.named.insert(0, named)?;
         Ok(())
     }
 
     // From here on the identity is the file's.
     fn identify(&mut self, identity: Identity, file: u64) -> Result<(), Memory> {
-        if self.find_identified(identity) == Some(file) {
-            return Ok(());
-        }
-        self.identified.insert(0, Identified { identity, file })?;
+        self.identified.insert(identity, file)?;
         Ok(())
     }
 
@@ -196,8 +222,8 @@ impl Files {
         Ok(())
     }
 
-    /// The file that a CREATE opens, by what it is known by; its life begins with the response, a message with this number, where it
-    /// is new or wasn't known.
+    /// The file that a CREATE opens, by what it is known by; its life begins with the response, a message with this number,
+    /// where it is new or wasn't known.
     pub(crate) fn open(&mut self, naming: Naming<'_>, is_new: bool, number: u64) -> Result<Option<u64>, Memory> {
         let found = self.find_by(naming);
         let file = match naming.place {
@@ -219,16 +245,9 @@ impl Files {
 
     /// Where a file is that began, by its number.
     pub(crate) fn place_of(&self, file: u64) -> Option<Place<'_>> {
-        for one in &self.begun {
-            if one.file == file {
-                return Some(Place {
-                    server: one.server,
-                    path: one.path.as_slice(),
-                    name: one.name.as_slice(),
-                    creation_time: one.creation_time,
-                });
-            }
+        match self.begun.get(&file) {
+            Some(one) => Some(one.place()),
+            None => None,
         }
-        None
     }
 }

@@ -84,6 +84,11 @@ impl Open {
     }
 }
 
+/// Whether a message may end opens, by the open that it makes.
+pub(crate) fn may_end(seen: &Seen<'_>, made: Option<Open>) -> bool {
+    made.is_some() || matches!(seen.note, Note::Close(_) | Note::CreateGiven(_) | Note::Leave(_) | Note::LeaveTree(_) | Note::End)
+}
+
 // The key under which a CREATE response grants a lease, where it is the one that was asked for.
 fn key_granted(given: Option<LeaseGiven>, asked: Option<LeaseKey>) -> Option<LeaseKey> {
     let (given, asked) = (given?, asked?);

@@ -24,7 +24,11 @@ const NETWORK_NAME_DELETED: u32 = 0xc000_00c9;
 
 const FILE_CLOSED: u32 = 0xc000_0128;
 
+const END_OF_FILE: u32 = 0xc000_0011;
+
 const TREE_CONNECT: u16 = 3;
+
+const READ: u16 = 8;
 
 // Half of the FileId by which a related request names the open of the one before it.
 const PREVIOUS: u64 = 0xffff_ffff_ffff_ffff;
@@ -230,6 +234,11 @@ fn is_gone(status: u32) -> bool {
     status == USER_SESSION_DELETED || status == NETWORK_NAME_DELETED || status == FILE_CLOSED
 }
 
+// Whether the server did what the request asks; a READ from the end of a file on gives no bytes.
+fn is_done(header: &Header) -> bool {
+    header.status == 0 || (header.command == READ && header.status == END_OF_FILE)
+}
+
 fn other_note<'a>(header: &Header) -> Note<'a> {
     if header.status == STATUS_PENDING {
         return Note::Other;
@@ -237,7 +246,7 @@ fn other_note<'a>(header: &Header) -> Note<'a> {
     if header.command == TREE_CONNECT && header.status == 0 {
         return tree_note(header);
     }
-    if header.status == 0 {
+    if is_done(header) {
         return Note::Done(header.message_id);
     }
     if is_gone(header.status) {

@@ -1,13 +1,12 @@
 // Made by tools/plain_rust from crates/capture_walk/src/renames.rt. Changes belong there.
 
-use std::prelude::Vec;
-
 use crate::proved::capture_walk::note::Seen;
 use smblease::proved::lease_state::Memory;
 use std::alloc::Global;
+use std::collections::BTreeSet;
 
 // A request that changes names.
-#[derive(Clone, Copy, Debug)]
+#[derive(Clone, Copy, Debug, PartialEq, Eq, PartialOrd, Ord)]
 pub(crate) struct Renaming {
     connection: u64,
     id: u64,
@@ -16,19 +15,18 @@ pub(crate) struct Renaming {
 /// The requests that change names.
 #[derive(Debug)]
 pub(crate) struct Renames {
-    // The newest first.
-    asked: Vec<Renaming>,
+    asked: BTreeSet<Renaming>,
 }
 
 impl Renames {
     /// None. Allocates nothing.
     pub(crate) fn new(alloc: Global) -> Renames {
-        Renames { asked: Vec::new(alloc) }
+        Renames { asked: BTreeSet::new(alloc) }
     }
 
     // Whether a request on a connection with this MessageId changes names.
     fn has(&self, connection: u64, id: u64) -> bool {
-        self.asked.iter().any(|one| one.connection == connection && one.id == id)
+        self.asked.contains(&Renaming { connection, id })
     }
 
     // Whether the message answers such a request.
@@ -48,7 +46,7 @@ impl Renames {
     pub(crate) fn note(&mut self, seen: &Seen<'_>) -> Result<(), Memory> {
         if let Some(id) = seen.note.rename_asked() {
             let connection = seen.connection;
-            self.asked.insert(0, Renaming { connection, id })?;
+            self.asked.insert(Renaming { connection, id })?;
         }
         Ok(())
     }

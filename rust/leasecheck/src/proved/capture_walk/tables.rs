@@ -4,10 +4,10 @@
 use std::prelude::Vec;
 
 use crate::proved::capture_judge::{Chain, Change, Level};
-use crate::proved::capture_walk::chains::{
-    acknowledgment, cut_off, is_known, kept_until, last_shown, leases_on, lost_since, push_chain, push_doubt,
-};
+use crate::proved::capture_walk::chains::{acknowledgment_at, cut_off, is_known, kept_until, last_shown, push_chain, push_doubt};
 use crate::proved::capture_walk::event::{Acknowledged, Answered, Asked, Break, End, Event, Grant, Lease};
+use crate::proved::capture_walk::index::Index;
+use crate::proved::capture_walk::slices::from;
 use smblease::proved::lease_state::Memory;
 use std::alloc::Global;
 
@@ -51,10 +51,16 @@ fn push_acknowledged(changes: &mut Vec<Change>, given: &Acknowledged, later: &[E
     push_changed(changes, given.level, given.last, answer)
 }
 
-// What a break leaves, where these events come after it.
-fn push_broken(changes: &mut Vec<Change>, broken: &Break, later: &[Event], since: Option<u64>) -> Result<(), Memory> {
-    let shown = last_shown(broken.lease, broken.sent, later, since);
-    match acknowledgment(broken.lease, later, since) {
+// What a break leaves, where it is acknowledged so, this request shows the lease last, and these events come after the break.
+fn push_broken(
+    changes: &mut Vec<Change>,
+    broken: &Break,
+    given: Option<Acknowledged>,
+    shown: Option<Asked>,
+    later: &[Event],
+    since: Option<u64>,
+) -> Result<(), Memory> {
+    match given {
         Some(given) => {
             push_acknowledged(changes, &given, later, since)?;
             push_doubt(changes, true, kept_until(given.last, shown))
@@ -87,21 +93,26 @@ fn push_ended(changes: &mut Vec<Change>, end: &End, later: &[Event], since: Opti
     }
 }
 
-// What an event changes of what the server holds for a lease, where these come after it.
+// What an event changes of what the server holds for a lease, where a break by it is acknowledged so, and these come after it.
 fn push_held(
     changes: &mut Vec<Change>,
     lease: Lease,
     broken: u64,
     event: &Event,
+    given: Option<Acknowledged>,
     later: &[Event],
     since: Option<u64>,
+    index: &Index,
 ) -> Result<(), Memory> {
     match event {
         Event::Granted(grant) if grant.lease.is(lease) => {
-            let shown = last_shown(grant.lease, grant.sent, later, since);
+            let shown = last_shown(grant.lease, grant.sent, later, since, index);
             push_granted(changes, grant, broken, shown)
         }
-        Event::Broken(one) if one.lease.is(lease) => push_broken(changes, one, later, since),
+        Event::Broken(one) if one.lease.is(lease) => {
+            let shown = last_shown(one.lease, one.sent, later, since, index);
+            push_broken(changes, one, given, shown, later, since)
+        }
         Event::Ended(end) if end.lease.is(lease) => push_ended(changes, end, later, since),
         _ => Ok(()),
     }
@@ -115,23 +126,44 @@ fn broken_at(lease: Lease, before: u64, event: &Event) -> u64 {
     }
 }
 
+// What the first of these events changes, where these are the places of those about the lease after it. Says where the lease is
+// broken last then.
+fn push_first(
+    changes: &mut Vec<Change>,
+    lease: Lease,
+    broken: u64,
+    from: &[Event],
+    places: &[usize],
+    events: &[Event],
+    since: Option<u64>,
+    index: &Index,
+) -> Result<u64, Memory> {
+    let [event, later @ ..] = from else {
+        return Ok(broken);
+    };
+    if !is_known(since, event) {
+        return Ok(broken);
+    }
+    let given = acknowledgment_at(lease, places, events, since);
+    push_held(changes, lease, broken, event, given, later, since, index)?;
+    Ok(broken_at(lease, broken, event))
+}
+
 // What the server holds for a lease, change by change, by the events that count.
-fn held(alloc: Global, lease: Lease, events: &[Event], since: Option<u64>) -> Result<Vec<Change>, Memory> {
+fn held(alloc: Global, lease: Lease, events: &[Event], since: Option<u64>, index: &Index) -> Result<Vec<Change>, Memory> {
     let mut changes = Vec::new(alloc);
     let mut broken = 0;
-    for (index, event) in events.iter().enumerate() {
-        if is_known(since, event) {
-            push_held(&mut changes, lease, broken, event, &events[index + 1..], since)?;
-            broken = broken_at(lease, broken, event);
-        }
+    let places = index.places(lease);
+    for (number, place) in places.iter().enumerate() {
+        broken = push_first(&mut changes, lease, broken, from(events, *place), &places[number + 1..], events, since, index)?;
     }
     Ok(changes)
 }
 
 // That up to where something of its client may be missing.
-fn known_held(alloc: Global, lease: Lease, events: &[Event]) -> Result<Vec<Change>, Memory> {
-    let since = lost_since(lease, events);
-    let mut changes = held(alloc, lease, events, since)?;
+fn known_held(alloc: Global, lease: Lease, events: &[Event], index: &Index) -> Result<Vec<Change>, Memory> {
+    let since = index.lost_since(lease);
+    let mut changes = held(alloc, lease, events, since, index)?;
     cut_off(since, &mut changes)?;
     Ok(changes)
 }
@@ -141,11 +173,13 @@ fn known_held(alloc: Global, lease: Lease, events: &[Event]) -> Result<Vec<Chang
 /// leases that clash. From where something of a client may be missing its leases may be lost, and what comes later doesn't count.
 /// The events are in the order of the capture.
 ///
-/// Fails where there is no memory.
-pub fn tables_on(alloc: Global, file: u64, events: &[Event]) -> Result<Vec<Chain>, Memory> {
+/// # Errors
+///
+/// `Memory` where there is none left.
+pub fn tables_on(alloc: Global, file: u64, events: &[Event], index: &Index) -> Result<Vec<Chain>, Memory> {
     let mut chains = Vec::new(alloc);
-    for lease in &leases_on(alloc, file, events)? {
-        let changes = known_held(alloc, *lease, events)?;
+    for lease in index.leases_on(file) {
+        let changes = known_held(alloc, *lease, events, index)?;
         push_chain(&mut chains, lease.client, changes)?;
     }
     Ok(chains)

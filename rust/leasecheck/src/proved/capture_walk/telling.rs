@@ -7,8 +7,9 @@ use crate::proved::capture_walk::event::{
     Acknowledged, Answered, Asked, Break, Closed, End, Event, Gone, Grant, Lease, Loss, Misnumbered, NotJudged, Proof, Remade,
     Said, Sent, Stray,
 };
+use crate::proved::capture_walk::latest::Latest;
 use crate::proved::capture_walk::note::{BreakNote, KeyLevel, LeaseGiven, Note, OpenName, Seen};
-use crate::proved::capture_walk::opens::{Open, is_under};
+use crate::proved::capture_walk::opens::{Open, is_under, may_end};
 use smblease::proved::lease_state::{LeaseKey, Memory};
 
 // The last open of a client with a lease under a key.
@@ -148,6 +149,9 @@ fn push_ended_lease(
 
 /// The leases that end with the opens that a message ends, by the open that it makes.
 pub(crate) fn push_ended(events: &mut Vec<Event>, seen: &Seen<'_>, made: Option<Open>, opens: &[Open]) -> Result<(), Memory> {
+    if !may_end(seen, made) {
+        return Ok(());
+    }
     for one in opens {
         push_ended_lease(events, seen, made, opens, one)?;
     }
@@ -186,25 +190,6 @@ fn push_disputed(events: &mut Vec<Event>, lease: Lease, opens: &[Open]) -> Resul
         events.push(lost(lease.client, NotJudged::Disputed))?;
     }
     Ok(())
-}
-
-// What the server said last of a lease.
-fn last_said(events: &[Event], lease: Lease) -> Option<Said> {
-    let mut found: Option<Said> = None;
-    for event in events {
-        match event {
-            Event::Granted(one) if one.lease.is(lease) => found = Some(one.said()),
-            Event::Broken(one) if one.lease.is(lease) => found = Some(one.said()),
-            Event::Ended(one) if one.lease.is(lease) => found = without_epoch(found),
-            _ => {}
-        }
-    }
-    found
-}
-
-fn without_epoch(said: Option<Said>) -> Option<Said> {
-    let said = said?;
-    Some(Said { epoch: None, ..said })
 }
 
 fn is_newer(before: u16, now: u16) -> bool {
@@ -265,19 +250,6 @@ fn push_order(events: &mut Vec<Event>, lease: Lease, before: Option<Said>, now: 
     Ok(())
 }
 
-fn is_stray_of(lease: Lease, connection: u64, asked: u64, event: &Event) -> bool {
-    match event {
-        Event::Stray(one) => {
-            is_under(Some(lease), one.client, one.key) && !(one.sent.connection == connection || one.sent.position < asked)
-        }
-        _ => false,
-    }
-}
-
-fn has_stray(events: &[Event], lease: Lease, connection: u64, asked: u64) -> bool {
-    events.iter().any(|event| is_stray_of(lease, connection, asked, event))
-}
-
 fn push_strayed(events: &mut Vec<Event>, lease: Lease, is_strayed: bool) -> Result<(), Memory> {
     if is_strayed {
         events.push(lost(lease.client, NotJudged::Disputed))?;
@@ -313,6 +285,7 @@ fn push_granted(
     given: Option<LeaseGiven>,
     made: Option<Open>,
     opens: &[Open],
+    latest: &Latest,
 ) -> Result<(), Memory> {
     let (Some(given), Some(one)) = (given, made) else {
         return Ok(());
@@ -320,8 +293,8 @@ fn push_granted(
     let Some(lease) = one.lease else {
         return Ok(());
     };
-    let said = last_said(events, lease);
-    let is_strayed = has_stray(events, lease, seen.connection, one.asked);
+    let said = latest.said(lease);
+    let is_strayed = latest.has_stray(lease, seen.connection, one.asked);
     push_disputed(events, lease, opens)?;
     push_strayed(events, lease, is_strayed)?;
     push_granted_lease(events, seen, given, lease, one.asked, said)
@@ -373,11 +346,12 @@ fn push_broken_lease(
     one: BreakNote,
     client: u64,
     opens: &[Open],
+    latest: &Latest,
 ) -> Result<(), Memory> {
     let Some(lease) = lease_under(opens, Some(client), one.key) else {
         return push_stray(events, seen, one, client);
     };
-    let said = last_said(events, lease);
+    let said = latest.said(lease);
     let broken = break_of(seen, one, lease, said);
     push_disputed(events, lease, opens)?;
     push_order(events, lease, said, broken.said(), None)?;
@@ -391,24 +365,12 @@ fn push_broken(
     one: BreakNote,
     client: Option<u64>,
     opens: &[Open],
+    latest: &Latest,
 ) -> Result<(), Memory> {
     match client {
-        Some(client) => push_broken_lease(events, seen, one, client, opens),
+        Some(client) => push_broken_lease(events, seen, one, client, opens, latest),
         None => push_strange_break(events, one.key, opens),
     }
-}
-
-// The last break of a lease.
-fn last_break(events: &[Event], lease: Lease) -> Option<Sent> {
-    let mut found = None;
-    for event in events {
-        if let Event::Broken(one) = event {
-            if one.lease.is(lease) {
-                found = Some(one.sent);
-            }
-        }
-    }
-    found
 }
 
 // That a break was taken.
@@ -419,11 +381,17 @@ fn push_taken_break(events: &mut Vec<Event>, seen: &Seen<'_>, sent: Option<Sent>
     Ok(())
 }
 
-fn push_acknowledged(events: &mut Vec<Event>, seen: &Seen<'_>, given: KeyLevel, lease: Option<Lease>) -> Result<(), Memory> {
+fn push_acknowledged(
+    events: &mut Vec<Event>,
+    seen: &Seen<'_>,
+    given: KeyLevel,
+    lease: Option<Lease>,
+    latest: &Latest,
+) -> Result<(), Memory> {
     let Some(lease) = lease else {
         return Ok(());
     };
-    let sent = last_break(events, lease);
+    let sent = latest.broken(lease);
     events.push(Event::Acknowledged(Acknowledged {
         lease,
         level: given.level,
@@ -479,7 +447,7 @@ pub(crate) fn push_remade(events: &mut Vec<Event>, remade: Option<Remade>) -> Re
 }
 
 /// What a message shows besides, by the client of its connection, the open that it makes, from where on something is missing if
-/// it is a gap, and the opens before it.
+/// it is a gap, the opens before it, and what the events before say last.
 pub(crate) fn push_told(
     events: &mut Vec<Event>,
     seen: &Seen<'_>,
@@ -487,12 +455,16 @@ pub(crate) fn push_told(
     made: Option<Open>,
     since: u64,
     opens: &[Open],
+    latest: &Latest,
 ) -> Result<(), Memory> {
     match seen.note {
-        Note::CreateGiven(given) => push_granted(events, seen, given.lease, made, opens),
+        Note::CreateGiven(given) => push_granted(events, seen, given.lease, made, opens, latest),
         Note::OnOpen(name) | Note::Close(name) => push_proof(events, seen, open_named(opens, seen.server, name)),
-        Note::Acknowledge(given) => push_acknowledged(events, seen, given, lease_under(opens, client, given.key)),
-        Note::Break(one) => push_broken(events, seen, one, client, opens),
+        Note::Acknowledge(given) => {
+            let lease = lease_under(opens, client, given.key);
+            push_acknowledged(events, seen, given, lease, latest)
+        }
+        Note::Break(one) => push_broken(events, seen, one, client, opens, latest),
         Note::Gone(id) => {
             let asked = last_asked(events, seen.connection, id);
             push_gone(events, asked)

@@ -2,8 +2,9 @@
 
 use std::prelude::Vec;
 
-use crate::proved::capture_walk::chains::leases_on;
 use crate::proved::capture_walk::event::{Acknowledged, Break, Event, Grant, Lease};
+use crate::proved::capture_walk::index::Index;
+use crate::proved::capture_walk::slices::from;
 use smblease::proved::lease_state::Memory;
 use std::alloc::Global;
 
@@ -28,44 +29,47 @@ fn acknowledged_now(told: Option<LeaseTold>, given: Acknowledged) -> Option<Leas
     Some(LeaseTold { grant: told.grant, broken: told.broken, acknowledged: Some(given) })
 }
 
+// What was said of a lease up to a position once an event is said, too.
+fn told_after(lease: Lease, until: u64, found: Option<LeaseTold>, event: &Event) -> Option<LeaseTold> {
+    match event {
+        Event::Granted(one) if one.lease.is(lease) && one.sent.position <= until => {
+            Some(LeaseTold { grant: *one, broken: None, acknowledged: None })
+        }
+        Event::Broken(one) if one.lease.is(lease) && one.sent.position <= until => broken_now(found, *one),
+        Event::Acknowledged(given) if given.lease.is(lease) && given.last <= until => acknowledged_now(found, *given),
+        Event::Ended(end) if end.lease.is(lease) && end.last <= until => None,
+        _ => found,
+    }
+}
+
 // What was said of a lease up to a position.
-fn told_until(lease: Lease, until: u64, events: &[Event]) -> Option<LeaseTold> {
+fn told_until(lease: Lease, until: u64, events: &[Event], index: &Index) -> Option<LeaseTold> {
     let mut found: Option<LeaseTold> = None;
-    for event in events {
-        match event {
-            Event::Granted(one) if one.lease.is(lease) && one.sent.position <= until => {
-                found = Some(LeaseTold { grant: *one, broken: None, acknowledged: None });
-            }
-            Event::Broken(one) if one.lease.is(lease) && one.sent.position <= until => {
-                found = broken_now(found, *one);
-            }
-            Event::Acknowledged(given) if given.lease.is(lease) && given.last <= until => {
-                found = acknowledged_now(found, *given);
-            }
-            Event::Ended(end) if end.lease.is(lease) && end.last <= until => found = None,
-            _ => {}
+    for place in index.places(lease) {
+        if let [event, ..] = from(events, *place) {
+            found = told_after(lease, until, found, event);
         }
     }
     found
 }
 
-fn push_told(told: &mut Vec<LeaseTold>, lease: Lease, until: u64, events: &[Event]) -> Result<(), Memory> {
-    if let Some(one) = told_until(lease, until, events) {
+fn push_told(told: &mut Vec<LeaseTold>, lease: Lease, until: u64, events: &[Event], index: &Index) -> Result<(), Memory> {
+    if let Some(one) = told_until(lease, until, events, index) {
         told.push(one)?;
     }
     Ok(())
 }
 
-/// What was said last, up to a position, of the leases on a file that hadn't ended by then, in the order in which they were granted
-/// first: the grants of which some clash, and the breaks that there were.
+/// What was said last, up to a position, of the leases on a file that hadn't ended by then, in the order in which they were
+/// granted first: the grants of which some clash, and the breaks that there were.
 ///
 /// # Errors
 ///
 /// `Memory` where there is none left.
-pub fn leases_told(alloc: Global, file: u64, until: u64, events: &[Event]) -> Result<Vec<LeaseTold>, Memory> {
+pub fn leases_told(alloc: Global, file: u64, until: u64, events: &[Event], index: &Index) -> Result<Vec<LeaseTold>, Memory> {
     let mut told = Vec::new(alloc);
-    for lease in &leases_on(alloc, file, events)? {
-        push_told(&mut told, *lease, until, events)?;
+    for lease in index.leases_on(file) {
+        push_told(&mut told, *lease, until, events, index)?;
     }
     Ok(told)
 }

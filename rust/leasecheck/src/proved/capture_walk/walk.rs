@@ -6,8 +6,9 @@ use crate::proved::capture_walk::clients::Clients;
 use crate::proved::capture_walk::creates::Creates;
 use crate::proved::capture_walk::event::{Event, Remade};
 use crate::proved::capture_walk::files::{Files, Place};
+use crate::proved::capture_walk::latest::Latest;
 use crate::proved::capture_walk::note::Seen;
-use crate::proved::capture_walk::opens::{Open, open_given, place_of};
+use crate::proved::capture_walk::opens::{Open, may_end, open_given, place_of};
 use crate::proved::capture_walk::renames::Renames;
 use crate::proved::capture_walk::sides::Sides;
 use crate::proved::capture_walk::telling::{push_ended, push_heard, push_remade, push_told};
@@ -28,6 +29,7 @@ pub struct Walk {
     // The newest first.
     opens: Vec<Open>,
     events: Vec<Event>,
+    latest: Latest,
 }
 
 impl Walk {
@@ -42,6 +44,7 @@ impl Walk {
             files: Files::new(alloc),
             opens: Vec::new(alloc),
             events: Vec::new(alloc),
+            latest: Latest::new(alloc),
         }
     }
 
@@ -66,7 +69,29 @@ impl Walk {
     }
 
     fn drop_opens(&mut self, seen: &Seen<'_>, made: Option<Open>) {
-        self.opens.retain(|one| !one.ends(seen, made));
+        if may_end(seen, made) {
+            self.opens.retain(|one| !one.ends(seen, made));
+        }
+    }
+
+    // The request or answer that the message is, what ends with it, and the file in whose place it makes another one.
+    fn show_ends(
+        &mut self,
+        seen: &Seen<'_>,
+        client: Option<u64>,
+        made: Option<Open>,
+        remade: Option<Remade>,
+    ) -> Result<(), Memory> {
+        push_heard(&mut self.events, seen, client, &self.opens)?;
+        push_ended(&mut self.events, seen, made, &self.opens)?;
+        push_remade(&mut self.events, remade)?;
+        self.latest.take(&self.events)
+    }
+
+    // What the message shows besides.
+    fn show_told(&mut self, seen: &Seen<'_>, client: Option<u64>, made: Option<Open>, since: u64) -> Result<(), Memory> {
+        push_told(&mut self.events, seen, client, made, since, &self.opens, &self.latest)?;
+        self.latest.take(&self.events)
     }
 
     // The opens after the message.
@@ -87,11 +112,9 @@ impl Walk {
         let remade = self.remade(seen);
         let made = self.name_files(seen)?;
         let client = self.clients.of(seen.connection);
-        push_heard(&mut self.events, seen, client, &self.opens)?;
-        push_ended(&mut self.events, seen, made, &self.opens)?;
-        push_remade(&mut self.events, remade)?;
+        self.show_ends(seen, client, made, remade)?;
         let since = self.sides.missing_since(seen.connection);
-        push_told(&mut self.events, seen, client, made, since, &self.opens)?;
+        self.show_told(seen, client, made, since)?;
         self.change_opens(seen, made)?;
         self.clients.note(seen)?;
         self.sides.note(seen)?;

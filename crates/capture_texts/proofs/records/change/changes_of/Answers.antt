@@ -16,7 +16,8 @@ loop-index-preserved c = λ chosen all.
           in let at = slice_get_read _ _ _ _ refl inside w.in-Some.ensures.lookup.1
           in rw w.changes-is (changes-more c.args.files.now c.args.clients.now c.args.findings.now chosen c.loop-index.index 0
           w.in-Some.file.now (map shown c.loop-index.changes.items) (map shown w.push_changes.new.changes.items) all
-          c.loop-index-test.true at (w.in_ok-push_changes.ensures ∙ ap (λ (beliefs : List Belief). map shown c.loop-index.changes.items
+          c.loop-index-test.true at (w.in_ok-push_changes.ensures
+          ∙ ap (λ (beliefs : List Belief). map shown c.loop-index.changes.items
           ++ changes_in c.args.clients.now (c.loop-index.index + 1)
           (slice_index_or c.args.findings.now c.loop-index.index 0) 0 beliefs) w.as_slice.ensures.value)
           (c.loop-index.invariant chosen all))

@@ -37,11 +37,13 @@ returns-clause-record c =
       are = c.in_ok-changes.ensures files places ∙ ap (λ (cs : List ℕ). changes_of cs c.as_slice-2.result.now files)
           (c.as_slice.ensures.value ∙ c.requires.clients);
       in-order = c.in_ok-sort.ensures;
-      told = c.in_ok-push_beliefs.ensures.facts ∙ (ap (λ facts. facts ++ beliefs c.as_slice-5.result.now) (c.in_ok-push_left_out.ensures.facts
+      told = c.in_ok-push_beliefs.ensures.facts
+          ∙ (ap (λ facts. facts ++ beliefs c.as_slice-5.result.now) (c.in_ok-push_left_out.ensures.facts
           ∙ c.in_ok-push_joins.ensures.facts
           ∙ (ap (λ facts. facts ++ joins (length c.as_slice-4.result.now)) (c.in_ok-push_starts.ensures.facts
           ∙ ap (λ (lines : List RecordLine). facts_in lines ++ starts (length c.as_slice-3.result.now)) c.new-lines.ensures.items)
-          ∙ (ap (λ n. starts n ++ joins (length c.as_slice-4.result.now)) count ∙ ap (λ n. starts (length files) ++ joins n) clients)))
+          ∙ (ap (λ n. starts n ++ joins (length c.as_slice-4.result.now)) count
+          ∙ ap (λ n. starts (length files) ++ joins n) clients)))
           ∙ ap (λ (cs : List Change). starts (length files) ++ joins (length (clients_of files)) ++ beliefs cs)
           c.as_slice-5.ensures.value);
       remarks = added _ _ _ _ _ _ _ _ _ (ap tells c.new-lines.ensures.items) c.in_ok-push_starts.ensures.told
@@ -53,7 +55,8 @@ returns-clause-record c =
           ++ (left_told c.saturating_sub-left_out.result ++ beliefs_told c.args.files.now c.as_slice-5.result.now)))
           (c.as_slice-4.ensures.value ∙ c.requires.clients)
           ∙ (ap (λ (n : ℕ). starts_told c.args.files.now 0 c.as_slice-2.result.now
-          ++ (joins_told c.args.files.now 0 (clients_of files) ++ (left_told n ++ beliefs_told c.args.files.now c.as_slice-5.result.now)))
+          ++ (joins_told c.args.files.now 0 (clients_of files)
+          ++ (left_told n ++ beliefs_told c.args.files.now c.as_slice-5.result.now)))
           (c.saturating_sub-left_out.ensures ∙ (ap (λ (n : ℕ). n - c.len.result) c.count_wanted.ensures
           ∙ ap (λ (n : ℕ). wanted c.args.files.now - n) (c.len.ensures ∙ (many ∙ ap length (sym c.as_slice-2.ensures.value)))))
           ∙ ap (λ (cs : List Change). starts_told c.args.files.now 0 c.as_slice-2.result.now

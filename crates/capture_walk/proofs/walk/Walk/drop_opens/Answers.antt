@@ -2,8 +2,8 @@ use Rattle.std.proofs.Common.{rules, refl}
 use Rattle.std.proofs.lemmas.Fn.{filter_same}
 use Rattle.capture_walk.proofs.walk.Walk.drop_opens.Goals as goal
 
-pub returns : goal.returns
-returns c = record {
+pub returns-then-may_end : goal.returns-then-may_end
+returns-then-may_end c = record {
   clients = refl;
   sides = refl;
   trees = refl;
@@ -12,4 +12,5 @@ returns c = record {
   files = refl;
   items = filter_same _ _ _ (λ x b f' k. search rules) _ _ c.retain.ensures.filtered;
   shown = refl;
+  latest = refl;
 }

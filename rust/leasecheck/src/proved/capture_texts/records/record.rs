@@ -187,8 +187,9 @@ fn lines_of(alloc: Global, files: &[FileFinding], cast: &Cast) -> Result<Vec<Rec
 }
 
 /// The lines of the record of what is found in a capture: each file and each client, and then what the clients cache, change by
-/// change in the order of the capture. It is of the unsafe files or, where there are none, of the safe ones; a file for which, with
-/// its clients, there are no numbers left is left out. A client that caches writes believes RW, one that caches something else R.
+/// change in the order of the capture. It is of the unsafe files or, where there are none, of the safe ones; a file for which,
+/// with its clients, there are no numbers left is left out. A client that caches writes believes RW, one that caches something
+/// else R.
 ///
 /// # Errors
 ///
