@@ -1,138 +1,82 @@
 """Captures in which a server that keeps the rules is made to break them: one grant beside another client's lease is raised to
-RWH, where what follows shows that the other lease was there still. Read apart from the judge, from the fixed parts of messages
-alone."""
+RWH, where what follows shows that the other lease was there still."""
 from __future__ import annotations
 
 import struct
 from collections.abc import Iterator
-from dataclasses import dataclass
 
-from smblease.drive.headers import FILE_IDS, HEADER, Command
+from smblease.drive.headers import Command
 
-NAME, TAG = HEADER + 44, b"RqLs"
-RWH, BREAKING = struct.pack("<L", 7), 2
+from tests.drive.talk import Grant, Talk
+
+RWH = struct.pack("<L", 7)
 
 
-@dataclass(frozen=True)
-class Said:
-    """A message of a capture: the number of its line, and where in its frame it begins."""
-
-    line: int
-    connection: str
-    is_request: bool
-    frame: bytes
-    begin: int
+class Shown(Talk):
+    """What the packets of a capture made at the server show to be held: there a request comes where the capture has it."""
 
     @property
-    def text(self) -> bytes:
-        following = self._number("<L", 20)
-        return self.frame[self.begin:self.begin + following if following else None]
-
-    def _number(self, form: str, place: int) -> int:
-        return int(struct.unpack_from(form, self.frame, self.begin + place)[0])
-
-    @property
-    def command(self) -> int:
-        return self._number("<H", 12)
+    def known(self) -> set[bytes]:
+        """The clients of which all that is said of a key is said on one connection and of one file: what others are granted may
+        have no order."""
+        places: dict[tuple[bytes, bytes], set[object]] = {}
+        for grant in self.grants:
+            told = {grant.said.connection, grant.file, *(it.connection for it in self.breaks_of(grant))}
+            places.setdefault((self.client(grant), grant.key), set()).update(told)
+        return {it for it in self.clients.values() if all(len(found) == 2 for (guid, _), found in places.items() if guid == it)}
 
     @property
-    def status(self) -> int:
-        return self._number("<L", 8)
+    def has_renames(self) -> bool:
+        """Whether names may have come to be those of other files."""
+        return any(it.command == Command.SET_INFO for it in self.said)
 
-    @property
-    def request(self) -> tuple[str, int]:
-        """The connection and the MessageId, by which a response is that of a request."""
-        return self.connection, self._number("<Q", 24)
+    def is_sure(self, one: Grant) -> bool:
+        """It isn't from before a break that was sent before it."""
+        return not one.is_breaking and not any(one.asked.line < it.line < one.said.line for it in self.breaks_of(one))
 
-    @property
-    def file_id(self) -> bytes:
-        """That which a request names, or which a CREATE response gives."""
-        place = HEADER + 64 if self.command == Command.CREATE else FILE_IDS[Command(self.command)]
-        return self.text[place:place + 16]
+    def is_held(self, lease: Grant, until: int) -> bool:
+        """Whether it is there from its grant up to a line: one of its opens is used in a request that comes after that line, the
+        server does what that asks, and nothing broke the lease before.
 
-    @property
-    def key(self) -> bytes:
-        """That of a notification."""
-        return self.text[HEADER + 8:HEADER + 24]
+        Three things that may follow leave it open, as the judge has it, when the lease was lost (missed_clashes), so they don't:
+        the next break is one that has to be acknowledged, unless the lease is granted again before that; no CLOSE is refused; and
+        the connection isn't left, or after a request that was sent after that line too."""
+        breaks = [it for it in self.breaks_of(lease) if it.line > lease.said.line]
+        opens = {it.said.file_id for it in self.grants_of(lease) if it.said.line <= lease.said.line}
+        uses = self.requests_by(opens, lease.said.connection)
+        use = next((it for it in uses if it.line > until and it.request in self.done), None)
+        if use is None or any(it.line < self.done[use.request] for it in breaks):
+            return False
+        is_refused = any(it.command == Command.CLOSE and it.request not in self.done for it in uses)
+        is_lowered = bool(breaks) and not breaks[0].wants_acknowledgment
+        is_known = not is_lowered or self._is_granted_again(lease, use.line, breaks[0].line)
+        return is_known and not is_refused and self._left_after(lease.said.connection) > until
 
-    @property
-    def lease(self) -> int:
-        """Where in its text the lease's data begins; -1 where there is none."""
-        found = self.text.find(TAG)
-        return found + 8 if found >= 0 else -1
+    def _left_after(self, connection: str) -> int:
+        """The line after which a connection, its session or its tree may have been left: the last that its host had when it sent
+        what leaves it, or sent its last frame; or the end of the capture."""
+        sent = [it for it in self.said if it.is_request and it.connection == connection]
+        leaves = [it.after for it in sent if it.command in (Command.LOGOFF, Command.TREE_DISCONNECT)]
+        return min([*leaves, *([sent[-1].after] if connection in self.ends else [])], default=self.said[-1].line)
 
-    @property
-    def name(self) -> bytes:
-        place, length = struct.unpack_from("<HH", self.text, NAME)
-        return self.text[place:place + length]
+    def _is_granted_again(self, lease: Grant, since: int, until: int) -> bool:
+        return any(since < it.asked.line and it.said.line < until and not it.is_breaking for it in self.grants_of(lease))
 
-
-def said_in(lines: list[str]) -> Iterator[Said]:
-    for number, line in enumerate(lines):
-        if not line.startswith("frame "):
-            continue
-        words = line.split()
-        frame, begin = bytes.fromhex(words[8]), 0
-        while True:
-            one = Said(number, words[3], words[6] == "from-client", frame, begin)
-            yield one
-            following = len(one.text)
-            if begin + following >= len(frame):
-                break
-            begin += following
-
-
-@dataclass(frozen=True)
-class Grant:
-    """A CREATE response with a lease, and the name and the line of its request."""
-
-    said: Said
-    name: bytes
-    asked: int
-
-    @property
-    def key(self) -> bytes:
-        return self.said.text[self.said.lease:self.said.lease + 16]
-
-    @property
-    def state(self) -> int:
-        return int(struct.unpack_from("<L", self.said.text, self.said.lease + 16)[0])
-
-    @property
-    def is_breaking(self) -> bool:
-        """It says what the lease is while it is being broken, and grants nothing (SMB2_LEASE_FLAG_BREAK_IN_PROGRESS)."""
-        return bool(struct.unpack_from("<L", self.said.text, self.said.lease + 20)[0] & BREAKING)
-
-
-def grants_in(said: list[Said]) -> Iterator[Grant]:
-    asked: dict[tuple[str, int], Said] = {}
-    for one in said:
-        if one.command != Command.CREATE:
-            continue
-        if one.is_request:
-            asked[one.request] = one
-        elif not one.status and one.lease >= 0 and one.request in asked:
-            yield Grant(one, asked[one.request].name, asked[one.request].line)
-
-
-def is_held(said: list[Said], lease: Grant, until: int) -> bool:
-    """Whether its open is used after a line, and the server does that, while nothing broke the lease before."""
-    done = {it.request: it.line for it in said if not it.is_request and not it.status}
-    breaks = [it.line for it in said if it.command == Command.OPLOCK_BREAK and not it.is_request and it.key == lease.key]
-    uses = [it for it in said if it.is_request and it.command in FILE_IDS and it.file_id == lease.said.file_id
-            and it.connection == lease.said.connection and it.line > until and it.request in done]
-    return any(not any(lease.said.line < broken < done[use.request] for broken in breaks) for use in uses)
+    def is_beside(self, one: Grant, other: Grant) -> bool:
+        """Whether a grant comes while another client holds a lease on the file, all the time from its request to its response."""
+        clients = {self.client(one), self.client(other)}
+        is_of_two = len(clients) == 2 and clients <= self.known and one.file == other.file
+        is_named = one.file == one.asked.name and self.has_renames
+        return (is_of_two and not is_named and other.state > 0 and other.said.line < one.asked.line and self.is_sure(other)
+                and self.is_held(other, one.said.line))
 
 
 def raised(text: str) -> Iterator[str]:
-    """The capture with each of its grants raised that is beside a lease of another connection on the file."""
+    """The capture with each of its grants raised that is beside a lease of another client on the file."""
     lines = text.splitlines(keepends=True)
-    said = list(said_in([it.rstrip("\n") for it in lines]))
-    grants = list(grants_in(said))
-    for one in (it for it in grants if not it.is_breaking):
-        beside = [it for it in grants if it.name == one.name and it.said.connection != one.said.connection and it.state
-                  and it.said.line < one.asked and it.key != one.key]
-        if any(is_held(said, it, one.said.line) for it in beside):
+    shown = Shown([it.rstrip("\n") for it in lines])
+    for one in shown.grants:
+        if shown.is_sure(one) and any(shown.is_beside(one, it) for it in shown.grants):
             place = one.said.begin + one.said.lease + 16
             frame = one.said.frame[:place] + RWH + one.said.frame[place + 4:]
             words = lines[one.said.line].split()

@@ -19,6 +19,7 @@ import pytest
 from tests.drive.charged_runs import CHARGED, Charged
 from tests.drive.faulty_servers import BreaksNothing, FaultyServer, GrantsWhatIsWanted, LeasesOutliveOpens, WaitsForNobody
 from tests.drive.judging import NOTHING_JUDGED, SAFE, UNSAFE, judged
+from tests.drive.missed_clashes import MISSED, Missed, opened_again_while_it_breaks, read_by_the_first
 from tests.drive.raised_grants import raised
 from tests.drive.taps import CLIENT, SERVER, SIDES
 from tests.drive.tapped_runs import ACKNOWLEDGES, CLOSES_ANY, CLOSES_KNOWN, CREATES, SEEN_LOSSES, Loss, Run, Ways
@@ -116,11 +117,38 @@ def test_faults_that_nobody_felt(faulty: Faulty) -> None:
 
 
 def test_grants_that_are_raised(program: str, request: pytest.FixtureRequest) -> None:
-    """In 50 captures made at a server one grant beside a lease that is there still is raised to RWH. Most are found; in others a
-    break that comes later, and needs no acknowledgment, may have taken the other lease away before that."""
+    """Each of 50 captures made at a server, in which a grant beside a lease that the packets show to be held is raised to RWH."""
     seed = request.config.getoption("seed")
     texts = (text for number in count() for text in raised(Run(f"{seed} raised {number}", Ways()).runs().text(SERVER)))
-    assert sum(judged(program, text, SERVER).status == UNSAFE for text in islice(texts, 50)) >= 45
+    assert [judged(program, text, SERVER).status for text in islice(texts, 50)] == 50 * [UNSAFE]
+
+
+@pytest.mark.parametrize("one", [pytest.param(one, id=one.follows.__name__, marks=pytest.mark.xfail(strict=True, reason=one.why))
+                                 for one in MISSED])
+def test_missed_clash(one: Missed, program: str) -> None:
+    assert judged(program, one.text(), SERVER).status == UNSAFE
+
+
+@pytest.mark.parametrize("one", [pytest.param(one, id=one.follows.__name__) for one in MISSED])
+def test_twin_of_a_missed_clash(one: Missed, program: str) -> None:
+    assert judged(program, one.text(twin=True), SERVER).status == UNSAFE
+
+
+@pytest.mark.parametrize("is_empty", [True, False])
+def test_clash_of_an_empty_file(is_empty: bool, program: str) -> None:
+    assert judged(program, read_by_the_first(is_empty), SERVER).status == UNSAFE
+
+
+@pytest.mark.xfail(strict=True, reason="the last open under the lease seems to be closed before the break is acknowledged; the "
+                                       "break's change is placed first, so that this can't have happened")
+@pytest.mark.parametrize("side", SIDES)
+def test_run_that_is_not_judged(side: str, program: str) -> None:
+    assert judged(program, opened_again_while_it_breaks(twin=False), side).status == SAFE
+
+
+@pytest.mark.parametrize("side", SIDES)
+def test_twin_of_a_run_that_is_not_judged(side: str, program: str) -> None:
+    assert judged(program, opened_again_while_it_breaks(twin=True), side).status == SAFE
 
 
 @pytest.mark.parametrize("one, side", [pytest.param(one, side, id=f"{one.run.__name__}-{side}") for one in CHARGED
