@@ -67,10 +67,9 @@ def _why(fault: Exception) -> str:
 class Protocol(SMB3):  # type: ignore[misc]
     """impacket's client, with the given ClientGuid, and no capabilities, as dialect 2.1 asks (2.2.3)."""
 
-    def __init__(self, place: Place, guid: bytes) -> None:
+    def __init__(self, place: Place, guid: bytes, dialect: int = smb2.SMB2_DIALECT_21) -> None:
         self._guid = guid
-        super().__init__(place.host, place.host, sess_port=place.port, timeout=PATIENCE,
-                         preferredDialect=smb2.SMB2_DIALECT_21)
+        super().__init__(place.host, place.host, sess_port=place.port, timeout=PATIENCE, preferredDialect=dialect)
 
     def negotiateSession(self, preferredDialect: int | None = None, negSessionResponse: object = None) -> None:
         self.ClientGuid = self._guid
