@@ -20,17 +20,33 @@ _DECIMAL = re.compile("0|[1-9][0-9]*")
 _BYTES_IN_HEX = re.compile("(?:[0-9a-fA-F]{2})+")
 
 
-def read_number(word: str) -> int:
+def read_number(word: str, least: int = 0, most: int | None = None) -> int:
     """The number that a line has as this word: decimal digits, without a sign and without leading zeros.
 
     >>> read_number("1_000")
     Traceback (most recent call last):
     ...
     ValueError: '1_000' is no number
+
+    >>> read_number("256", 1, 255)
+    Traceback (most recent call last):
+    ...
+    ValueError: 256 isn't from 1 to 255
     """
     if not _DECIMAL.fullmatch(word):
         raise ValueError(f"{word[:200]!r} is no number")
-    return int(word)
+    number = int(word)
+    if number < least or most is not None and number > most:
+        raise ValueError(f"{word[:200]} isn't from {least} to {most}")
+    return number
+
+
+# the numbers of clients and files
+_NAMED = 1, 255
+
+
+def _numbers(least: int, most: int) -> tuple[Callable[[Any], str], Callable[[str], Any]]:
+    return str, lambda word: read_number(word, least, most)
 
 
 def digits(data: bytes) -> str:
@@ -68,10 +84,11 @@ def _one_of(words: Mapping[str, Any]) -> tuple[Callable[[Any], str], Callable[[s
     return names.__getitem__, words.__getitem__
 
 
-_NUMBER, _BYTES = (str, read_number), (digits, read_digits)
+_BYTES = digits, read_digits
 # How each field is written and read.
 _FIELDS: dict[str, tuple[Callable[[Any], str], Callable[[str], Any]]] = {
-    **dict.fromkeys(("file", "client", "file_id", "number", "offset"), _NUMBER),
+    **dict.fromkeys(("file", "client"), _numbers(*_NAMED)), "offset": _numbers(0, 2**32 - 1),
+    **dict.fromkeys(("file_id", "number"), _numbers(0, 2**64 - 1)),
     **dict.fromkeys(("contexts", "data", "message"), _BYTES),
     "access": _one_of(ACCESS), "share": _one_of(SHARE), "refusal": _one_of(_REFUSAL), "outcome": _one_of(_OUTCOME),
     "buffered": _one_of(_BUFFERED), "cached": _one_of(_CACHED), "state": (str, LeaseState.of),
@@ -170,7 +187,7 @@ def read_note(text: str) -> tuple[int, steps.Note]:
     (2, Believes(file=1, state=<LeaseState RH>))
     """
     word, client, rest = (text.split(" ", 2) + ["", ""])[:3]
-    return read_number(client), _read(_NOTES, f"{word} {rest}")
+    return read_number(client, *_NAMED), _read(_NOTES, f"{word} {rest}")
 
 
 def out_words(out: outs.Out) -> str:
@@ -189,7 +206,7 @@ def read_out(text: str) -> outs.Out:
     Sent(client=2, reply=Closed(file_id=7))
     """
     word, client, rest = (text.split(" ", 2) + ["", ""])[:3]
-    return outs.Sent(read_number(client), read_reply(rest)) if word == "sent" else _read(_CHANGES, text)
+    return outs.Sent(read_number(client, *_NAMED), read_reply(rest)) if word == "sent" else _read(_CHANGES, text)
 
 
 def read_answer(text: str) -> steps.Answer:

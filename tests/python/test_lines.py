@@ -1,5 +1,5 @@
 """Lines of the machines that docs/FORMATS.md doesn't have are refused: numbers are decimal, without sign and leading zeros, and
-bytes are two hexadecimal digits each."""
+within their limits, and bytes are two hexadecimal digits each."""
 from __future__ import annotations
 
 from collections.abc import Callable
@@ -19,6 +19,13 @@ REFUSED: dict[str, Callable[[str], object]] = {
     "createfailed 1 STATUS_NONE": read_reply, "readdone 7 g0": read_reply, "believes 1_0 1 RH": read_note,
     "believes -1 1 RH": read_note, "believes 1 1 HR": read_note, "believes": read_note, "sent 01 closed 7": read_out,
     "sent 1 closed": read_out, "sent": read_out,
+    "create 0 r rw -": read_request, "create 256 r rw -": read_request, f"read {2**64}": read_request,
+    f"write {2**64} 1 0 58": read_request, f"write 7 {2**64} 0 58": read_request, f"write 7 1 {2**32} 58": read_request,
+    "believes 0 1 RH": read_note, "believes 1 256 RH": read_note, f"settled 1 {2**64} done": read_note,
+}
+TAKEN: dict[str, Callable[[str], object]] = {
+    "create 255 r rw -": read_request, f"read {2**64 - 1}": read_request, f"write 7 {2**64 - 1} {2**32 - 1} 58": read_request,
+    "believes 255 1 RH": read_note,
 }
 
 
@@ -26,6 +33,11 @@ REFUSED: dict[str, Callable[[str], object]] = {
 def test_line_that_is_refused(line: str) -> None:
     with pytest.raises(ValueError):
         REFUSED[line](line)
+
+
+@pytest.mark.parametrize("line", TAKEN)
+def test_line_at_a_limit(line: str) -> None:
+    TAKEN[line](line)
 
 
 @pytest.mark.parametrize("word", ["0", "1", "10", str(2**64 - 1), str(2**80)])
