@@ -10,9 +10,9 @@ LINEAR = 1.25
 
 @dataclass(frozen=True)
 class Family:
-    """`make(n)` is the input of size n: a record for `judge` or `draw`, a schedule for `replay`, or lines for `client`. Its doc
-    string says what the family shows; `make(0)` is the set-up, whose cost is subtracted. `command` may have options behind a
-    space."""
+    """`make(n)` is the input of size n: a record for `judge` or `draw`, a schedule for `replay`, lines for `client`, or a
+    capture. Its doc string says what the family shows; `make(0)` is the set-up, whose cost is subtracted. `command` may have
+    options behind a space."""
 
     name: str
     command: str

@@ -16,6 +16,7 @@ import pytest
 from _pytest.mark import ParameterSet
 
 from tests import needs
+from tests.growth.captures import CAPTURES
 from tests.growth.clients import CLIENTS
 from tests.growth.family import Family
 from tests.growth.records import RECORDS
@@ -24,7 +25,7 @@ from tests.growth.servers import SERVERS
 from tests.paths import built_program
 
 pytestmark = [pytest.mark.long, needs.program("valgrind"), needs.program("time")]
-FAMILIES = [*RECORDS, *SCHEDULES, *CLIENTS, *SERVERS]
+FAMILIES = [*RECORDS, *SCHEDULES, *CLIENTS, *SERVERS, *CAPTURES]
 
 
 class Sample(NamedTuple):
