@@ -10,12 +10,7 @@ from __future__ import annotations
 
 import argparse
 import random
-import signal
-import subprocess
-import time
 from collections import Counter
-from collections.abc import Iterator
-from contextlib import contextmanager
 from pathlib import Path
 from typing import NamedTuple
 
@@ -26,6 +21,7 @@ from smblease.drive.servers import PrivateServer
 
 from tests.drive.causes import Causes
 from tests.drive.commands import Ran, ran
+from tests.drive.dumping import capturing
 from tests.drive.judging import judged
 from tests.drive.wander_wire import PROTOCOLS
 from tests.drive.wandering import Wandering, Ways, drawn_ways
@@ -57,23 +53,6 @@ class Captured(NamedTuple):
         return ", ".join([self.verdict(side), *sorted(it.value for it in causes)])
 
 
-@contextmanager
-def capturing(path: Path, port: int) -> Iterator[None]:
-    """Has dumpcap write what goes to and from a port over loopback."""
-    words = ["dumpcap", "-q", "-i", "lo", "-w", str(path), "-f", f"tcp port {port}"]
-    with subprocess.Popen(words, stderr=subprocess.PIPE, text=True) as process:
-        assert process.stderr
-        while not process.stderr.readline().startswith("File:"):
-            assert process.poll() is None, "dumpcap doesn't run"
-        time.sleep(0.2)
-        try:
-            yield
-            time.sleep(0.4)
-        finally:
-            process.send_signal(signal.SIGINT)
-            process.communicate()
-
-
 def dialect_of(number: int) -> str:
     return list(PROTOCOLS)[number % 2]
 
@@ -82,7 +61,7 @@ def capture(chance: random.Random, ways: Ways, path: Path) -> int:
     """Captures a run of clients that like to do this; the server's port, which tshark may know as that of another protocol."""
     server = PrivateServer(protocol=PROTOCOLS[ways.dialect], more=MULTICHANNEL if ways.multichannel else "")
     try:
-        with capturing(path, server.place.port):
+        with capturing(path, f"tcp port {server.place.port}"):
             Wandering(chance, ways, server).runs()
     finally:
         server.close()

@@ -6,11 +6,8 @@
 from __future__ import annotations
 
 import re
-import signal
 import subprocess
-import time
-from collections.abc import Iterable, Iterator, Sequence
-from contextlib import contextmanager
+from collections.abc import Iterable, Sequence
 from pathlib import Path
 
 import pytest
@@ -21,6 +18,7 @@ from smblease.program import judge
 from smblease.schedules import Schedule
 from tests import needs
 from tests.drive.commands import PRIVATE_SMBD, ran
+from tests.drive.dumping import capturing
 from tests.drive.judging import SAFE, UNSAFE
 from tests.paths import EXAMPLE, TOP, name_of
 
@@ -31,22 +29,6 @@ TORTURES = ("request", "nobreakself", "upgrade3")
 TORTURES_311 = ("v2_epoch1", "v2_epoch2", "v2_complex2")
 # whether what the clients believe breaks the first rule
 DRIVEN = {EXAMPLE: False, TOP / "drive" / "found" / "lease_outlives_its_open.schedule": True}
-
-
-@contextmanager
-def capturing(path: Path) -> Iterator[None]:
-    """Has dumpcap write what goes over loopback."""
-    with subprocess.Popen(["dumpcap", "-i", "lo", "-w", path, "-f", "tcp"], stderr=subprocess.PIPE, text=True) as process:
-        assert process.stderr
-        while not process.stderr.readline().startswith("File:"):
-            assert process.poll() is None, "dumpcap doesn't run"
-        time.sleep(0.2)
-        try:
-            yield
-            time.sleep(0.5)
-        finally:
-            process.send_signal(signal.SIGINT)
-            process.communicate()
 
 
 def on_port(path: Path, port: int) -> str:

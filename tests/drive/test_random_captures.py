@@ -18,10 +18,11 @@ from smblease.drive.tshark import ANY_PORT
 from tests import needs
 from tests.drive.causes import STATES, Cause, Causes
 from tests.drive.commands import PRIVATE_SMBD
+from tests.drive.dumping import capturing
 from tests.drive.hand_made import PENDING, H, R, W
 from tests.drive.judging import SAFE, UNSAFE, judged
 from tests.drive.raised_grants import raised
-from tests.drive.random_captures import SIDES, captured, capture, capturing, dialect_of, lines_in
+from tests.drive.random_captures import SIDES, captured, capture, dialect_of, lines_in
 from tests.drive.wander_wire import DATA, PROTOCOLS, READ_ATTRIBUTES, Ask, Channel, writes
 from tests.drive.wandering import quiet_ways
 
@@ -67,7 +68,7 @@ def test_lease_for_attributes_alone(dialect: str, program: str, tmp_path: Path) 
     """smbd grants RWH to an open for attributes alone, beside another client's lease (docs/FOUND_ON_SMBD.md)."""
     path, server = tmp_path / "one.pcapng", PrivateServer(protocol=PROTOCOLS[dialect])
     try:
-        with capturing(path, server.place.port):
+        with capturing(path, f"tcp port {server.place.port}"):
             one, other = (Channel(server.place, bytes([number] * 16), dialect) for number in (1, 2))
             had = done(one, Ask("f", DATA, 7, 1, R | H).message)[128:144]
             done(other, Ask("f", READ_ATTRIBUTES, 7, 2, R | W | H).message)
