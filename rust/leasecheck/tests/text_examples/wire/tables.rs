@@ -3,7 +3,7 @@
 
 use crate::wire::walks::{answer, ask, break_to, grant, keeps, key, open_name, seen, use_open};
 use leasecheck::proved::capture_judge::{Charge, Level, Placing, judge_placing};
-use leasecheck::proved::capture_walk::{BreakNote, Note, Walk, chains_on, tables_on};
+use leasecheck::proved::capture_walk::{BreakNote, Index, Note, Walk, chains_on, tables_on};
 use smblease::proved::lease_state::{LeaseState, Memory};
 use smblease_std::alloc::Global;
 use smblease_std::test::Fail;
@@ -19,7 +19,7 @@ fn beside(alloc: Global, level: Level) -> Result<Walk, Memory> {
 }
 
 fn judged(alloc: Global, walk: &Walk) -> Result<Placing, Memory> {
-    judge_placing(alloc, &tables_on(alloc, 5, walk.events())?)
+    judge_placing(alloc, &tables_on(alloc, 5, walk.events(), &Index::of(alloc, walk.events())?)?)
 }
 
 // The second client isn't shown to have taken its lease, but the server granted that by 24, and the first one's is there still.
@@ -31,7 +31,7 @@ fn a_grant_beside_a_lease_is_the_servers() {
         grant(&mut walk, 12, 2, Level::Something)?;
         use_open(&mut walk, 13, 1)?;
         assert!(matches!(judged(alloc, &walk)?, Placing::Unsafe(Charge { position: 24, .. })));
-        let chains = chains_on(alloc, 5, walk.events())?;
+        let chains = chains_on(alloc, 5, walk.events(), &Index::of(alloc, walk.events())?)?;
         assert!(matches!(judge_placing(alloc, &chains)?, Placing::Clean(_)));
         Ok(())
     })

@@ -3,8 +3,8 @@
 use crate::wire::KEY;
 use leasecheck::proved::capture_judge::{Change, Charge, Level, Placing, judge_placing};
 use leasecheck::proved::capture_walk::{
-    Asked, BreakNote, CreateAsked, CreateGiven, Event, Frame, FrameFault, KeyLevel, LeaseGiven, Loss, NotJudged, Note, OpenName,
-    Seen, TreeAsked, TreeGiven, Walk, chains_on, closed_behind, files_in, ids_of, level_of, note_of, read_frame,
+    Asked, BreakNote, CreateAsked, CreateGiven, Event, Frame, FrameFault, Index, KeyLevel, LeaseGiven, Loss, NotJudged, Note,
+    OpenName, Seen, TreeAsked, TreeGiven, Walk, chains_on, closed_behind, ids_of, level_of, note_of, read_frame,
 };
 use leasecheck::proved::capture_wire::{Guid, Smb2FileId};
 use smblease::proved::lease_state::{LeaseKey, LeaseState, Memory};
@@ -109,7 +109,7 @@ fn possible(level: Level, first: u64) -> Change {
 
 // The changes of the only lease on a file.
 fn only_chain(alloc: Global, walk: &Walk, file: u64) -> Result<Option<Vec<Change>>, Memory> {
-    let mut chains = chains_on(alloc, file, walk.events())?;
+    let mut chains = chains_on(alloc, file, walk.events(), &Index::of(alloc, walk.events())?)?;
     if chains.len() != 1 {
         return Ok(None);
     }
@@ -130,10 +130,10 @@ fn a_lease_beside_a_writers_is_unsafe() {
         grant(&mut walk, 12, 2, Level::Something)?;
         use_open(&mut walk, 13, 2)?;
         use_open(&mut walk, 15, 1)?;
-        assert_eq!(files_in(alloc, walk.events())?.as_slice(), [5].as_slice());
+        assert_eq!(Index::of(alloc, walk.events())?.files(), [5].as_slice());
         let name = walk.place_of(5).map(|place| place.name);
         assert_eq!(name, Some(b"f\0".as_slice()));
-        let chains = chains_on(alloc, 5, walk.events())?;
+        let chains = chains_on(alloc, 5, walk.events(), &Index::of(alloc, walk.events())?)?;
         let placing = judge_placing(alloc, &chains)?;
         assert!(matches!(placing, Placing::Unsafe(Charge { position: 25, .. })));
         Ok(())
@@ -150,7 +150,7 @@ fn names_tell_files_apart() {
         grant(&mut walk, 5, 1, Level::Writes)?;
         ask(&mut walk, 7, 2, b"F\0")?;
         grant(&mut walk, 11, 2, Level::Something)?;
-        assert_eq!(files_in(alloc, walk.events())?.as_slice(), [5, 11].as_slice());
+        assert_eq!(Index::of(alloc, walk.events())?.files(), [5, 11].as_slice());
         Ok(())
     })
 }
@@ -171,7 +171,7 @@ fn a_break_makes_room() {
         grant(&mut walk, 15, 2, Level::Something)?;
         use_open(&mut walk, 16, 2)?;
         use_open(&mut walk, 18, 1)?;
-        let chains = chains_on(alloc, 5, walk.events())?;
+        let chains = chains_on(alloc, 5, walk.events(), &Index::of(alloc, walk.events())?)?;
         assert!(matches!(judge_placing(alloc, &chains)?, Placing::Clean(_)));
         Ok(())
     })
@@ -224,7 +224,7 @@ fn gaps_and_renames_are_not_judged() {
         walk.take(&seen(6, 1, Note::RenameAsked(9)))?;
         ask(&mut walk, 7, 2, b"f\0")?;
         grant(&mut walk, 11, 2, Level::Something)?;
-        assert_eq!(files_in(alloc, walk.events())?.as_slice(), [5, 11].as_slice());
+        assert_eq!(Index::of(alloc, walk.events())?.files(), [5, 11].as_slice());
         walk.take(&seen(12, 1, Note::Gap))?;
         let loss = Loss { client: 1, since: 10, reason: NotJudged::Missing };
         assert_eq!(walk.events().last(), Some(&Event::Lost(loss)));
@@ -437,7 +437,7 @@ fn a_gap_may_hide_a_rename() {
         walk.take(&seen(7, 3, Note::Gap))?;
         ask(&mut walk, 8, 2, b"f\0")?;
         grant(&mut walk, 12, 2, Level::Something)?;
-        assert_eq!(files_in(alloc, walk.events())?.as_slice(), [5, 12].as_slice());
+        assert_eq!(Index::of(alloc, walk.events())?.files(), [5, 12].as_slice());
         Ok(())
     })
 }
@@ -472,7 +472,7 @@ fn a_dispute_leaves_no_chain() {
         use_open(&mut walk, 6, 1)?;
         join(&mut walk, 7, 2, 1)?;
         walk.take(&seen(8, 2, break_to(Level::Something, 0)))?;
-        assert_eq!(chains_on(alloc, 5, walk.events())?.len(), 0);
+        assert_eq!(chains_on(alloc, 5, walk.events(), &Index::of(alloc, walk.events())?)?.len(), 0);
         Ok(())
     })
 }
