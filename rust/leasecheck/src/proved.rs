@@ -37,6 +37,7 @@ pub mod capture_wire;
 pub mod lease_lines;
 pub mod lease_reasons;
 pub mod lease_texts;
+pub mod lease_wire_v2;
 pub mod leasecheck;
 pub mod record_words;
 pub mod text_laws;

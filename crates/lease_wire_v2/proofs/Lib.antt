@@ -1,0 +1,15 @@
+pub mod Bytes
+pub mod LeaseLaws
+pub mod DurableLaws
+pub mod NoticeLaws
+pub mod LaidItems
+pub mod Adding
+pub mod ReadingLaws
+pub mod Directed
+pub mod ReadValues
+pub mod WrittenContexts
+pub mod WrittenEntries
+pub mod CanonicalLaws
+pub mod WorkedChains
+pub mod FirstVersion
+pub mod FirstVersionWritten

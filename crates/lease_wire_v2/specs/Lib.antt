@@ -1,0 +1,12 @@
+pub mod Fields
+pub mod LeaseData
+pub mod DurableData
+pub mod EpochNotice
+pub mod CreateFaults
+pub mod Names
+pub mod Faults
+pub mod Gathering
+pub mod Views
+pub mod Canonical
+pub mod Worked
+pub mod FirstVersion
