@@ -105,7 +105,9 @@ pub use Rattle.lease_model.specs.server.Calls.{Call, after_first_try, arrived_be
 pub use Rattle.lease_model.specs.server.Calls.{disconnected, file_asked, file_of_create, file_of_open, file_request_arrived}
 pub use Rattle.lease_model.specs.server.Calls.{is_left_behind, is_lost, joined, key_expired, opens_disconnected}
 pub use Rattle.lease_model.specs.server.Calls.{outlives_connection}
-unfoldable pub use Rattle.lease_model.specs.server.Calls.{arrived, cut, expire, join, receive, scavenge, withdraw}
+pub use Rattle.lease_model.specs.server.Calls.{is_lost_of, is_named, opens_parted, parted, requests_left}
+unfoldable pub use Rattle.lease_model.specs.server.Calls.{arrived, cut, expire, give_up, join, leave, receive, scavenge, withdraw}
+pub use Rattle.lease_model.specs.server.GivingUp.{Extent, others_broken, others_wants}
 pub use Rattle.lease_model.specs.server.Findings.{Finding, asked_finding, awaits, by_contexts, by_open, connected_open}
 pub use Rattle.lease_model.specs.server.Findings.{create_finding, is_leased_elsewhere, read_finding, reconnect_finding}
 pub use Rattle.lease_model.specs.server.Findings.{write_finding}
@@ -171,6 +173,8 @@ pub use Rattle.lease_laws.specs.server.SmallSteps.{MayHold, MayLower, MayRefuse,
 pub use Rattle.lease_laws.specs.server.SmallSteps.{own_steps, step_taken, steps_taken}
 pub use Rattle.lease_laws.specs.server.StepLaws.{BecomesBy, IsBreakTold, IsEnded, IsRaised, IsShort, IsToPresent, StaysOrRises}
 pub use Rattle.lease_laws.specs.server.StepLaws.{TellsBreaks}
+pub use Rattle.lease_laws.specs.server.Durable.{IsToldDurable, WasDurable}
+pub use Rattle.lease_laws.specs.server.GivingUp.{holds_of}
 pub use Rattle.lease_laws.specs.server.Waiting.{AllWait, IsAbout, IsOpenOn, IsOrderly, IsUnder, WaitsWell}
 pub use Rattle.lease_laws.specs.server.Wanted.{AreInKeyOrder, AreWanted}
 pub use Rattle.lease_laws.specs.world.Contents.{AreInStep, ContentsAreTold, IsOfPlace, RepliesAreOfTheirPlaces}

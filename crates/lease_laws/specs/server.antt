@@ -1,5 +1,7 @@
 pub mod Changes
+pub mod Durable
 pub mod Enough
+pub mod GivingUp
 pub mod Laws
 pub mod Outs
 pub mod Refusals

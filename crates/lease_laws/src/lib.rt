@@ -18,7 +18,8 @@ pub use from_bytes::{bytes_laws, machines_write_bytes, written_is_read};
 pub use past_laws::{contents_of_runs, writes_of_runs};
 pub use refusal_laws::refusals_leave_files_alone;
 pub use server_laws::{
-    laws_of_servers, outs_of_calls, waiting_of_servers, waits_of_tries, wants_are_exact,
+    durable_opens_are_answered, laws_of_servers, others_give_up, outs_of_calls, waiting_of_servers,
+    waits_of_tries, wants_are_exact,
 };
 pub use step_laws::{breaks_of_steps, calls_go_by_steps, outs_reach_and_fit};
 pub use verdict_law::verdict_decides;

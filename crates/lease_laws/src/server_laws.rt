@@ -11,7 +11,9 @@ ghost use Rattle.lease_laws.specs.server.Laws.{Among, IsSound, IsBlocked, HasToW
 ghost use Rattle.lease_laws.specs.server.Outs.{EachOut, IsFlaggedRightly, ArePaired, IsBreak, IsNoBreak, GoOn, AreBreaksFirst};
 ghost use Rattle.lease_laws.specs.server.Outs.{IsAlone, CachesAlone};
 ghost use Rattle.lease_model.specs.server.State.{Server, Open, new_server_under, has_key};
-ghost use Rattle.lease_laws.specs.server.Waiting.{WaitsWell, WritersDontWait};
+ghost use Rattle.lease_laws.specs.server.Durable.{DurableIsTold};
+ghost use Rattle.lease_laws.specs.server.GivingUp.{OthersGiveUp};
+ghost use Rattle.lease_laws.specs.server.Waiting.{NothingWaitsIdly, WaitsWell, WritersDontWait};
 ghost use Rattle.lease_laws.specs.server.Wanted.{WantsAreExact};
 ghost use Rattle.lease_model.specs.server.Findings.{connected_open};
 
@@ -24,11 +26,24 @@ pub fn laws_of_servers()
 /// The laws of waiting hold of the first server, and every call keeps them: who is connected, on which
 /// file requests are held, and that the first held request of each client there waits for a break of
 /// another key, a write for one that leaves something. So where a key that holds W has an open, no first
-/// held request of a client stands under it.
+/// held request of a client stands under it; and on a file of which no lease is breaking nothing is held.
 pub fn waiting_of_servers()
     ensures first { (rules : Rules) (contents : List (List ℕ)) → WaitsWell (new_server_under rules contents) }
     ensures kept { (server : Server) (call : Call) → IsSound server → WaitsWell server → WaitsWell (called server call).server }
     ensures writers { WritersDontWait }
+    ensures idly { NothingWaitsIdly }
+{}
+
+/// A client knows which of its opens last: one is durable only where the answer to its create says so, whatever its lease is
+/// granted later. Does nothing.
+pub fn durable_opens_are_answered()
+    ensures { DurableIsTold }
+{}
+
+/// Other keys on a file give up handles, or all that they cache: what one of them still holds of it, once that is asked, is
+/// breaking. Does nothing.
+pub fn others_give_up()
+    ensures { OthersGiveUp }
 {}
 
 /// What a call gives out. Breaks are flagged rightly. A Changed stands directly before its

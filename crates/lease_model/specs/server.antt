@@ -4,6 +4,7 @@ pub mod Answers
 pub mod Attempt
 pub mod Calls
 pub mod Findings
+pub mod GivingUp
 pub mod Grant
 pub mod KeyOrder
 pub mod Naming

@@ -14,6 +14,7 @@ pub mod Schedules
 pub mod ServerBreaks
 pub mod ServerCalls
 pub mod ServerDurable
+pub mod ServerGivingUp
 pub mod ServerRefusals
 pub mod ServerRules
 pub mod ServerWords

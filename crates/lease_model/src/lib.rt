@@ -26,8 +26,8 @@ pub use worked_runs_of_others::runs_of_others;
 pub use worked_runs_of_reads::runs_of_reads;
 pub use worked_runs_of_writes::runs_of_writes;
 pub use worked_server::{
-    acknowledgments, breaks_of_servers, durable_opens, odd_states, one_list_of_opens,
-    refusals_of_servers, requests_taken_back, two_passes,
+    acknowledgments, breaks_of_servers, durable_opens, leases_given_up, odd_states,
+    one_list_of_opens, opens_left, refusals_of_servers, requests_taken_back, two_passes,
 };
 pub use worked_setups::setups;
 pub use worked_verdicts::{verdicts, verdicts_of_each_rule};

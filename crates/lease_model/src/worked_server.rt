@@ -4,7 +4,9 @@ ghost use Rattle.lease_model.specs.worked.ServerBreaks.{KeysInOrder, OwnLeaseBro
 ghost use Rattle.lease_model.specs.worked.ServerBreaks.{WriteHeldByBreakToReads, OneConflictBroken, HeldInOrder};
 ghost use Rattle.lease_model.specs.worked.ServerBreaks.{ExpiredUntilJoined};
 ghost use Rattle.lease_model.specs.worked.ServerRefusals.{RefusedOnArrival, DeniedBreaksNothing, FileIdsUsedUp};
-ghost use Rattle.lease_model.specs.worked.ServerDurable.{DurableWhileBreaking, RefusedReconnects, ConnectedNotScavenged};
+ghost use Rattle.lease_model.specs.worked.ServerDurable.{AskedInVain, DurableWhileBreaking, RefusedReconnects, ConnectedNotScavenged};
+ghost use Rattle.lease_model.specs.worked.ServerDurable.{LeftAndKept, LeftWhileWaiting};
+ghost use Rattle.lease_model.specs.worked.ServerGivingUp.{GivesUp, IsGivenUpOnceAcknowledged, LeftIsGivenUp, ReadsAreGivenUpAtOnce};
 
 /// Two clients and two files: a lease is broken for another client's create, acknowledged, and the
 /// create answered; then a denied write, two closes and refused creates. What the server would
@@ -59,6 +61,22 @@ pub fn refusals_of_servers()
 /// When an open is durable, which reconnects are refused, and what a scavenge closes.
 pub fn durable_opens()
     ensures grants { DurableWhileBreaking }
+    ensures in_vain { AskedInVain }
     ensures reconnects { RefusedReconnects }
     ensures scavenged { ConnectedNotScavenged }
+{}
+
+/// What becomes of the opens that a client leaves while it stays, and of its requests that wait.
+pub fn opens_left()
+    ensures opens { LeftAndKept }
+    ensures waiting { LeftWhileWaiting }
+{}
+
+/// Other keys on a file give up handles, or all that they cache, by one break each; when that is done; and an open that waits
+/// for its client is closed for it.
+pub fn leases_given_up()
+    ensures calls { GivesUp }
+    ensures acknowledged { IsGivenUpOnceAcknowledged }
+    ensures reads { ReadsAreGivenUpAtOnce }
+    ensures left { LeftIsGivenUp }
 {}

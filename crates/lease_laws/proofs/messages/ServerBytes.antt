@@ -12,7 +12,8 @@ use Rattle.lease_laws.proofs.Words.{lease_given, lease_put, length, not, opens_d
 use Rattle.lease_laws.proofs.Words.{opens_dropped, put, refl, refusal_of, replied, request_held, standing_lease}
 use Rattle.lease_laws.proofs.Words.{step_taken, steps_taken, subst, sym, true}
 use Rattle.lease_laws.proofs.server.Lists.{if_cases, clash, and_parts, any_has, among_append, among_filter, among_map}
-use Rattle.lease_laws.proofs.server.Lists.{among_behind}
+use Rattle.lease_laws.proofs.Words.{is_lost_of, is_named, opens_parted, parted, requests_left}
+use Rattle.lease_laws.proofs.server.Lists.{among_behind, among_unmarked}
 use Rattle.lease_laws.proofs.server.OutLists.{each_append, go_on-same}
 use Rattle.lease_laws.proofs.server.OutSteps.{opens_dropped-outs}
 use Rattle.lease_laws.proofs.server.OutCalls.{request_held-outs, held_left-outs}
@@ -248,6 +249,18 @@ lost_full client progress full = record {
   held = λ file one a. full.held file one (among_filter (λ x. not (x.client == client)) one (progress.server.held file) a).0;
 }
 
+parted_key : (test : Open → Bool) (one : Open) → (parted test one).lease_key ≡ one.lease_key
+parted_key test one = grind arith
+
+-- opens and requests that are left
+leave_full : (test : Open → Bool) (marks : ℕ → List Bool) (progress : Progress) → HaveFullKeys progress.server
+    → HaveFullKeys (requests_left marks (opens_parted test progress)).server
+leave_full test marks progress full = record {
+  opens = λ one bytes a e. let x = among_map (parted test) one progress.server.opens a in
+      full.opens x.0 bytes x.1 (sym (parted_key test x.0) ∙ ap (λ o. o.lease_key) (sym x.2) ∙ e);
+  held = λ file one a. full.held file one (among_unmarked one (marks file) (progress.server.held file) a);
+}
+
 timer_full : (key : Key) (progress : Progress) → HaveFullKeys progress.server → HaveFullKeys (key_expired key progress).server
 timer_full key progress full = record { opens = full.opens; held = full.held }
 
@@ -269,6 +282,9 @@ begun_full server call full = any_call server (λ call start after. HaveFullKeys
     opens = full.opens;
     held = λ other one a. full.held other one (requests_lost-there server file marks other one a);
   };
+  gives_up = λ own file extent. full;
+  leaves = λ client file_ids marks up. let lost = is_lost_of server (is_named client file_ids) in
+      leave_full (is_named client file_ids) marks (opens_dropped lost (begun server)) (dropped_full lost (begun server) full);
 }) call
 
 pub replies_have_bytes : (server : Server) (call : Call) → IsSound server → WaitsWell server → HaveFullKeys server

@@ -1,9 +1,9 @@
 -- The laws hold of the first server, and every call keeps them.
-use Rattle.lease_laws.proofs.Words.{◌&&◌, ◌==◌, ◌∙◌, ◌≡◌, Among, AreSound, Bool, Call, Decides-eqb, Err, FileRequest, IsLasting}
+use Rattle.lease_laws.proofs.Words.{◌&&◌, ◌==◌, ◌∙◌, ◌≡◌, Among, AreSound, Bool, Call, Err, FileRequest, IsLasting}
 use Rattle.std.proofs.Common.{arith}
 use Rattle.lease_laws.proofs.Words.{IsSound, Key, List, None, Ok, Open, Option, Outcome, Progress, Result, Server, Some}
 use Rattle.lease_laws.proofs.Words.{Status, ℕ, acknowledged, after_first_try, ap, arrived_on, begun, called}
-use Rattle.lease_laws.proofs.Words.{client_forgotten, cond, disconnected, false, file_asked, file_request_arrived}
+use Rattle.lease_laws.proofs.Words.{client_forgotten, cond, false, file_asked, file_request_arrived}
 use Rattle.lease_laws.proofs.Words.{has_key, if◌then◌else◌, is_behind, is_breaking, is_key, is_left_behind, is_lost}
 use Rattle.lease_laws.proofs.Words.{joined, key_expired, key_of, lease_by, lease_of_open, list_any, new_server_under, no_lease, not}
 use Rattle.lease_laws.proofs.Words.{opens_disconnected, opens_dropped, outlives_connection, put_key, refl, request_held}
@@ -19,7 +19,10 @@ use Rattle.lease_laws.proofs.server.Progress.{opens_dropped-sound, request_held-
 use Rattle.lease_laws.proofs.server.Ready.{ready-free}
 use Rattle.lease_laws.proofs.server.Steps.{connection_sound, with_connection, left_here}
 use Rattle.lease_laws.proofs.server.Tries.{IsGoodTry, tried_for-good}
-use Rattle.lease_laws.proofs.server.cases.Calls.{any_call, lease_lost, links_lost, requests_lost}
+use Rattle.lease_laws.proofs.server.cases.Calls.{any_call, lease_lost, links_lost, opens_left, parts_left, requests_lost}
+use Rattle.lease_laws.proofs.server.Breaks.{wants_met-sound}
+use Rattle.lease_laws.proofs.server.Wants.{others_wants-fit}
+use Rattle.lease_laws.proofs.Words.{Extent, is_lost_of, is_named, opens_parted, others_broken, others_wants, parted}
 
 -- the first server
 pub new_server-sound : (rules : Rules) (contents : List (List ℕ)) → IsSound (new_server_under rules contents)
@@ -122,46 +125,55 @@ lasting_left test progress one a l =
       is_settled = ap (λ x. is_breaking x) same ∙ l.is_settled;
     }
 
--- once the lost opens of a client are dropped, each of its others outlives its connection
-pub left_lasting : (client : ℕ) (server : Server) (one : Open) → IsSound server
-    → Among one (opens_dropped (is_lost server client) (begun server)).server.opens → one.client ≡ client
+-- once those that end of opens that pass a test are dropped, each of the others that pass it outlives its connection
+pub parted_lasting : (test : Open → Bool) (server : Server) (one : Open) → IsSound server
+    → Among one (opens_dropped (is_lost_of server test) (begun server)).server.opens → test one ≡ true
     → IsLasting server.leases one
-left_lasting client server one s a c =
-    let was = among_filter (λ x. not (is_lost server client x)) one server.opens a in
+parted_lasting test server one s a t =
+    let was = among_filter (λ x. not (is_lost_of server test x)) one server.opens a in
     either one.connected
-    (λ up. kept_lasting server one (not_false (outlives_connection server one) (λ gone. clash (is_lost server client one)
-    (and_both (one.client == client && one.connected) (not (outlives_connection server one))
-    (and_both (one.client == client) one.connected ((Decides-eqb one.client client).1 c) up) (ap not gone))
-    (not_parts (is_lost server client one) was.1))))
+    (λ up. kept_lasting server one (not_false (outlives_connection server one) (λ gone. clash (is_lost_of server test one)
+    (and_both (test one && one.connected) (not (outlives_connection server one))
+    (and_both (test one) one.connected t up) (ap not gone))
+    (not_parts (is_lost_of server test one) was.1))))
     (λ down. s.disconnected one was.0 down)
 
 -- to disconnect opens keeps the laws
-pub opens_disconnected-sound : (client : ℕ) (progress : Progress) → IsSound progress.server
-    → ((one : Open) → Among one progress.server.opens → one.client ≡ client → IsLasting progress.server.leases one)
-    → IsSound (opens_disconnected client progress).server
-opens_disconnected-sound client progress s lasting =
-    let up : Open → Bool = λ x. if x.client == client then false else x.connected in
+pub opens_parted-sound : (test : Open → Bool) (progress : Progress) → IsSound progress.server
+    → ((one : Open) → Among one progress.server.opens → test one ≡ true → IsLasting progress.server.leases one)
+    → IsSound (opens_parted test progress).server
+opens_parted-sound test progress s lasting =
+    let up : Open → Bool = λ x. if test x then false else x.connected in
     subst (λ opens. AreSound opens progress.server.leases progress.server.expired progress.server.last_id)
-    (sym (map_same (disconnected client) (with_connection up) progress.server.opens
-    (λ one. choose_connection (one.client == client) false one)))
+    (sym (map_same (parted test) (with_connection up) progress.server.opens (λ one. choose_connection (test one) false one)))
     (connection_sound up progress.server.opens progress.server.leases progress.server.expired progress.server.last_id s
-    (λ one a d. either (one.client == client)
-    (λ e. lasting one a ((Decides-eqb one.client client).0 e))
-    (λ e. s.disconnected one a (if_cases (λ b. b ≡ false → one.connected ≡ false) (one.client == client) false one.connected
-    (λ t. clash (one.client == client) t e) (λ t same. same) d))))
+    (λ one a d. either (test one) (λ e. lasting one a e)
+    (λ e. s.disconnected one a (if_cases (λ b. b ≡ false → one.connected ≡ false) (test one) false one.connected
+    (λ t. clash (test one) t e) (λ t same. same) d))))
 
 -- to forget a client keeps the laws
 pub client_forgotten-sound : (client : ℕ) (progress : Progress) → IsSound progress.server
     → IsSound (client_forgotten client progress).server
 client_forgotten-sound client progress s = s
 
+-- to drop opens that end, and to disconnect the others, keeps the laws
+parts-sound : (test : Open → Bool) (server : Server) → IsSound server
+    → IsSound (opens_parted test (opens_dropped (is_lost_of server test) (begun server))).server
+parts-sound test server s =
+    let dropped = opens_dropped (is_lost_of server test) (begun server) in
+    opens_parted-sound test dropped (opens_dropped-sound (is_lost_of server test) (begun server) s)
+    (λ one a t. lasting_left (is_lost_of server test) (begun server) one a (parted_lasting test server one s a t))
+
 -- to lose a client's links keeps the laws
 pub links_lost-sound : (server : Server) (client : ℕ) → IsSound server → IsSound (links_lost server client).server
 links_lost-sound server client s =
-    let dropped = opens_dropped (is_lost server client) (begun server) in
-    client_forgotten-sound client (opens_disconnected client dropped)
-    (opens_disconnected-sound client dropped (opens_dropped-sound (is_lost server client) (begun server) s)
-    (λ one a c. lasting_left (is_lost server client) (begun server) one a (left_lasting client server one s a c)))
+    client_forgotten-sound client (opens_disconnected client (opens_dropped (is_lost server client) (begun server)))
+    (parts-sound (λ one. one.client == client) server s)
+
+-- to leave opens keeps the laws
+pub opens_left-sound : (server : Server) (client : ℕ) (file_ids : List ℕ) → IsSound server
+    → IsSound (opens_left server client file_ids).server
+opens_left-sound server client file_ids s = parts-sound (is_named client file_ids) server s
 
 -- none of the opens that are left has the key that was dropped
 none_left : (key : Key) (opens : List Open) {X : Type 0} → list_any (has_key key) (without (has_key key) opens) ≡ true → X
@@ -185,6 +197,12 @@ pub lease_lost-sound : (server : Server) (key : Key) → IsSound server → IsSo
 lease_lost-sound server key s = key_expired-sound key (opens_dropped (has_key key) (begun server))
     (opens_dropped-sound (has_key key) (begun server) s) (dropped_lease key (begun server))
 
+-- to break what other keys hold keeps the laws
+pub others_broken-sound : (server : Server) (own : Option Key) (file : ℕ) (extent : Extent) → IsSound server
+    → IsSound (others_broken server own file extent).server
+others_broken-sound server own file extent s = wants_met-sound (others_wants server own file extent) (begun server) s
+    (others_wants-fit server own file extent s)
+
 -- every call keeps the laws
 pub called-sound : (server : Server) (call : Call) → IsSound server → IsSound (called server call).server
 called-sound server call s = any_call server (λ call start after. IsSound after.server) (record {
@@ -198,4 +216,8 @@ called-sound server call s = any_call server (λ call start after. IsSound after
   scavenges = λ file_id left. all_passes-sound (opens_dropped (is_left_behind file_id) (begun server))
       (opens_dropped-sound (is_left_behind file_id) (begun server) s);
   withdraws = λ file marks some. all_passes-sound (requests_lost server file marks) s;
+  gives_up = λ own file extent. all_passes-sound (others_broken server own file extent)
+      (others_broken-sound server own file extent s);
+  leaves = λ client file_ids marks up. all_passes-sound (parts_left server client file_ids marks)
+      (opens_left-sound server client file_ids s);
 }) call

@@ -243,7 +243,7 @@ pub record IsRound (holds : State → Bool) (wants : List Want) (before : Server
   pub met : (want : Want) → Among want wants → IsMet holds want.key after
 
 -- all the wants of a round
-wants_met_met : (holds : State → Bool) (wants : List Want) (progress : Progress) → holds nothing_cached ≡ false
+pub wants_met_met : (holds : State → Bool) (wants : List Want) (progress : Progress) → holds nothing_cached ≡ false
     → ((want : Want) → Among want wants → holds want.lowered ≡ false)
     → IsRound holds wants progress.server (wants_met wants progress).server
 wants_met_met holds wants progress nothing = any_wants
@@ -273,7 +273,7 @@ abbrev pub wanted : (State → Bool) → (Open → Bool) → (State → State) �
 wanted holds base lowering server = wants_where server (is_wanted holds base server) lowering
 
 -- what is wanted comes from some key, so it is lowered
-wanted_low : (holds : State → Bool) (base : Open → Bool) (lowering : State → State) (server : Server)
+pub wanted_low : (holds : State → Bool) (base : Open → Bool) (lowering : State → State) (server : Server)
     → ((state : State) → holds (lowering state) ≡ false)
     → (want : Want) → Among want (wanted holds base lowering server) → holds want.lowered ≡ false
 wanted_low holds base lowering server low want a =
@@ -388,7 +388,7 @@ pub record IsRoundBroken (holds : State → Bool) (base : Open → Bool) (loweri
   pub to_none : AllBreakToNone after (wanted holds base lowering after)
 
 -- a key that is still wanted is that of an open which is
-still_open : (holds : State → Bool) (base : Open → Bool) (lowering : State → State) (before after : Server) (key : Key)
+pub still_open : (holds : State → Bool) (base : Open → Bool) (lowering : State → State) (before after : Server) (key : Key)
     (one : Open) (bytes : Option (List ℕ)) → one.lease_key ≡ bytes → has_key key one ≡ true
     → IsRound holds (wanted holds base lowering before) before after
     → Among one after.opens → is_wanted holds base after one ≡ true → IsStillWanted holds base lowering before after key

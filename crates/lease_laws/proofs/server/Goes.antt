@@ -104,7 +104,7 @@ dropped-goes test progress = record {
   from = λ one a. inl (still_there progress.server one (among_filter (λ x. not (test x)) one progress.server.opens a).0);
 }
 
-tries_go : HasTries Goes
+pub tries_go : HasTries Goes
 tries_go = record {
   same = λ progress. goes-same progress.server;
   behind = λ before next after. goes-twice before.server next.server after.server;

@@ -19,7 +19,7 @@ SameHeld before after = after.server.held ≡ before.server.held
 pub dropped_held : (test : Open → Bool) (progress : Progress) → SameHeld progress (opens_dropped test progress)
 dropped_held test progress = refl
 
-tries_hold : HasTries SameHeld
+pub tries_hold : HasTries SameHeld
 tries_hold = record {
   same = λ progress. refl;
   behind = λ before next after e f. f ∙ e;

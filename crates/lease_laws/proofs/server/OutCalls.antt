@@ -13,7 +13,10 @@ use Rattle.lease_laws.proofs.server.OutLists.{AreFair, IsGoodBreak, breaks_fair,
 use Rattle.lease_laws.proofs.server.OutLists.{go_on-weaker}
 use Rattle.lease_laws.proofs.server.OutSteps.{opens_dropped-outs, tried_for-broken, concluded-answered, acknowledged-answered}
 use Rattle.lease_laws.proofs.server.OutSteps.{refused-answered}
-use Rattle.lease_laws.proofs.server.cases.Calls.{any_call, lease_lost, links_lost, requests_lost}
+use Rattle.lease_laws.proofs.Words.{others_broken, others_wants}
+use Rattle.lease_laws.proofs.server.OutSteps.{Broken, tries_break}
+use Rattle.lease_laws.proofs.server.cases.Tries.{any_meeting}
+use Rattle.lease_laws.proofs.server.cases.Calls.{any_call, lease_lost, links_lost, parts_left, requests_lost}
 use Rattle.lease_laws.proofs.server.cases.Passes.{any_try_again, passes_keep}
 
 -- for calls under way
@@ -147,6 +150,10 @@ called-fair server call = any_call server (λ call start after. Fair after) (rec
       (opens_dropped (is_left_behind file_id) (begun server)).outs
       (opens_dropped-outs (is_left_behind file_id) (begun server)) none_fair);
   withdraws = λ file marks some. all_passes-fair (requests_lost server file marks) none_fair;
+  gives_up = λ own file extent. all_passes-fair (others_broken server own file extent) (breaks_fair []
+      (others_broken server own file extent).outs none_fair
+      (any_meeting Broken tries_break (others_wants server own file extent) (begun server)));
+  leaves = λ client file_ids marks up. all_passes-fair (parts_left server client file_ids marks) none_fair;
 }) call
 
 -- what a try gives out are breaks

@@ -23,7 +23,7 @@ dropped_broken : (test : Open → Bool) (progress : Progress) → Broken progres
 dropped_broken test progress = subst (λ outs. GoOn IsGoodBreak progress.outs outs) (sym (opens_dropped-outs test progress))
     (go_on-same IsGoodBreak progress.outs)
 
-tries_break : HasTries Broken
+pub tries_break : HasTries Broken
 tries_break = record {
   same = λ progress. go_on-same IsGoodBreak progress.outs;
   behind = λ before next after. go_on-twice IsGoodBreak before.outs next.outs after.outs;

@@ -21,7 +21,8 @@ use Rattle.lease_laws.proofs.server.OutAnswers.{all_wants-given}
 use Rattle.lease_laws.proofs.server.Ready.{enters_free}
 use Rattle.lease_laws.proofs.server.Steps.{left_here}
 use Rattle.lease_laws.proofs.server.Wanted.{wants_where-exact, key_before-self}
-use Rattle.lease_laws.proofs.server.Wants.{needs-fit}
+use Rattle.lease_laws.proofs.server.Wants.{needs-fit, others_wants-fit}
+use Rattle.lease_laws.proofs.Words.{Extent, Option, begun, others_broken, others_wants}
 use Rattle.lease_laws.proofs.server.cases.Findings.{NamesOpen, any_finding, any_needs}
 use Rattle.lease_laws.proofs.server.cases.Tries.{IsWhole, any_break, any_rounds, any_wants}
 
@@ -179,6 +180,20 @@ needs-ordered server client = any_needs server client (λ request. AreInKeyOrder
       (λ state. nothing_cached)).in_order;
   closes = λ file_id one own. tt;
 })
+
+-- what other keys are to give up stands in order
+others-ordered : (server : Server) (own : Option Key) (file : ℕ) (extent : Extent)
+    → AreInKeyOrder (others_wants server own file extent)
+others-ordered server own file Extent.Handles = (wants_where-exact server
+    (λ one. is_other_on own file one && (lease_of_open server one).state.handle) without_handle).in_order
+others-ordered server own file Extent.All = (wants_where-exact server
+    (λ one. is_other_on own file one && holds_any (lease_of_open server one).state) (λ state. nothing_cached)).in_order
+
+-- and is broken by steps
+pub others_broken-steps : (call : Call) (server : Server) (own : Option Key) (file : ℕ) (extent : Extent) → IsSound server
+    → GoesBySteps call 0 (begun server) (others_broken server own file extent)
+others_broken-steps call server own file extent s = wants_met-steps call (others_wants server own file extent) (begun server)
+    (others-ordered server own file extent) (λ want a there. (others_wants-fit server own file extent s want a).can_lower)
 
 -- ---- tries
 

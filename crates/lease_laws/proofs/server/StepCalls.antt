@@ -22,9 +22,11 @@ use Rattle.lease_laws.proofs.server.Keeps.{Keeps, Anywhere}
 use Rattle.lease_laws.proofs.server.Lists.{if_cases, among_behind}
 use Rattle.lease_laws.proofs.server.Orderly.{IsFine, IsTry, any_try, held_well}
 use Rattle.lease_laws.proofs.server.PassWaits.{FileWaits, PassWaits, last_waits, more_wait, passes-wait}
-use Rattle.lease_laws.proofs.server.SmallSteps.{steps_none, step_one, steps_then, tried-steps, tried-guarded}
-use Rattle.lease_laws.proofs.server.WaitCalls.{joined-orderly, cut-fine, expired-fine, dropped-fine, withdrawn-fine}
-use Rattle.lease_laws.proofs.server.cases.Calls.{IsIdle, any_call, lease_lost, links_lost, requests_lost}
+use Rattle.lease_laws.proofs.Words.{others_broken}
+use Rattle.lease_laws.proofs.server.SmallSteps.{others_broken-steps, steps_none, step_one, steps_then, tried-steps, tried-guarded}
+use Rattle.lease_laws.proofs.server.WaitCalls.{joined-orderly, cut-fine, expired-fine, dropped-fine, left-fine, withdrawn-fine}
+use Rattle.lease_laws.proofs.server.WaitCalls.{others_broken-fine}
+use Rattle.lease_laws.proofs.server.cases.Calls.{IsIdle, any_call, lease_lost, links_lost, parts_left, requests_lost}
 use Rattle.lease_laws.proofs.server.cases.Passes.{HasPasses, any_passes, any_try_again}
 use Rattle.lease_laws.proofs.server.Held.{answered-fewer}
 
@@ -258,6 +260,12 @@ called-steps server call s w =
           (opens_dropped (is_left_behind file_id) (begun server)) (dropped-fine (is_left_behind file_id) (begun server) fine);
       withdraws = λ file marks some. all_passes-steps (Call.Withdraw file marks) (requests_lost server file marks)
           (withdrawn-fine server file marks fine);
+      gives_up = λ own file extent. let call : Call = Call.GiveUp own file extent in
+          steps_then call 0 0 (begun server) (others_broken server own file extent)
+          (all_passes (others_broken server own file extent)) (others_broken-steps call server own file extent s)
+          (all_passes-steps call (others_broken server own file extent) (others_broken-fine server own file extent fine));
+      leaves = λ client file_ids marks up. all_passes-steps (Call.Leave client file_ids marks)
+          (parts_left server client file_ids marks) (left-fine server client file_ids marks fine);
     }) call
 
 -- ---- the first part of a call gives nothing out
@@ -272,6 +280,8 @@ call_begun-silent server call = any_call server (λ call start after. start.outs
   expires = λ key breaks. refl;
   scavenges = λ file_id left. refl;
   withdraws = λ file marks some. refl;
+  gives_up = λ own file extent. refl;
+  leaves = λ client file_ids marks up. refl;
 }) call
 
 -- ---- and leaves the laws, and who is connected
@@ -298,4 +308,7 @@ call_begun-up server call s w =
       scavenges = λ file_id left. well (opens_dropped (is_left_behind file_id) (begun server))
           (dropped-fine (is_left_behind file_id) (begun server) fine);
       withdraws = λ file marks some. well (requests_lost server file marks) (withdrawn-fine server file marks fine);
+      gives_up = λ own file extent. well (begun server) fine;
+      leaves = λ client file_ids marks up. well (parts_left server client file_ids marks)
+          (left-fine server client file_ids marks fine);
     }) call

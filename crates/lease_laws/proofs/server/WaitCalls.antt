@@ -13,9 +13,15 @@ use Rattle.lease_laws.proofs.Words.{is_behind}
 use Rattle.lease_laws.proofs.Words.{inl}
 use Rattle.lease_laws.proofs.server.Keys.{is_key-one, is_key-refl}
 use Rattle.lease_laws.proofs.server.Arrivals.{acknowledged-waits, everyone_keeps, file_request-waits, fine_goes, new_server-waits}
-use Rattle.lease_laws.proofs.server.Calls.{joined-sound, lease_lost-sound, links_lost-sound}
-use Rattle.lease_laws.proofs.server.Goes.{Goes, dropped-goes}
-use Rattle.lease_laws.proofs.server.Held.{SameHeld, dropped_held, requests_lost-there}
+use Rattle.lease_laws.proofs.Words.{Extent, is_lost_of, is_named, opens_parted, others_broken, others_wants, parted}
+use Rattle.lease_laws.proofs.Words.{requests_left, true≢false, unmarked}
+use Rattle.lease_laws.proofs.server.Calls.{joined-sound, lease_lost-sound, links_lost-sound, opens_left-sound}
+use Rattle.lease_laws.proofs.server.Calls.{others_broken-sound}
+use Rattle.lease_laws.proofs.server.Goes.{Goes, IsOld, dropped-goes, still_there, tries_go}
+use Rattle.lease_laws.proofs.server.Held.{SameHeld, dropped_held, requests_lost-there, tries_hold}
+use Rattle.lease_laws.proofs.server.Lists.{among_unmarked}
+use Rattle.lease_laws.proofs.server.cases.Tries.{any_meeting}
+use Rattle.lease_laws.proofs.server.cases.Calls.{opens_left, parts_left}
 use Rattle.lease_laws.proofs.server.Keeps.{Kept, Anywhere, connected_has}
 use Rattle.lease_laws.proofs.server.Lists.{if_cases, clash, not_parts, among_filter, among_map}
 use Rattle.lease_laws.proofs.server.Lists.{among_behind}
@@ -190,6 +196,85 @@ withdrawn-fine server file marks fine =
       };
     }
 
+-- an open that is disconnected was one that is there
+parted_old : (test : Open → Bool) (server : Server) (was : Open) (b : Bool) → Among was server.opens
+    → IsOld server (cond b (record was { connected = false }) was)
+parted_old test server was true a = record {
+  was = was;
+  was_there = a;
+  same_id = refl;
+  same_file = refl;
+  same_client = refl;
+  up = λ u. absurd (true≢false (sym u));
+}
+parted_old test server was false a = still_there server was a
+
+-- to disconnect opens lets the others go on
+parted-goes : (test : Open → Bool) (progress : Progress) → Goes progress (opens_parted test progress)
+parted-goes test progress = record {
+  files = refl;
+  ups = λ c. refl;
+  ids = omega arith;
+  from = λ one a. let x = among_map (parted test) one progress.server.opens a in
+      inl (subst (λ o. IsOld progress.server o) (sym x.2) (parted_old test progress.server x.0 (test x.0) x.1));
+}
+
+-- to leave opens keeps the laws and the order
+opens_left-fine : (server : Server) (client : ℕ) (file_ids : List ℕ) → IsFine server
+    → IsFine (opens_left server client file_ids).server
+opens_left-fine server client file_ids fine =
+    let lost = is_lost_of server (is_named client file_ids) in
+    fine_goes (opens_dropped lost (begun server)) (opens_left server client file_ids) (dropped-fine lost (begun server) fine)
+    (opens_left-sound server client file_ids fine.sound)
+    (parted-goes (is_named client file_ids) (opens_dropped lost (begun server))) refl
+
+-- requests that wait no longer: what a FileId is about stays
+marked_about_open : (marks : ℕ → List Bool) (progress : Progress) (file file_id : ℕ) → IsOpenOn progress.server file file_id
+    → IsOpenOn (requests_left marks progress).server file file_id
+marked_about_open marks progress file file_id o = record { was_given = o.was_given; is_on_file = o.is_on_file }
+
+-- and what a request is about
+marked_about : (marks : ℕ → List Bool) (progress : Progress) (file : ℕ) (request : FileRequest)
+    → IsAbout progress.server file request → IsAbout (requests_left marks progress).server file request
+marked_about marks progress file (FileRequest.Create at access share contexts) about = about
+marked_about marks progress file (FileRequest.Read file_id) about = marked_about_open marks progress file file_id about
+marked_about marks progress file (FileRequest.Write file_id number patch) about =
+    marked_about_open marks progress file file_id about
+marked_about marks progress file (FileRequest.Close file_id) about = marked_about_open marks progress file file_id about
+
+-- they leave the laws and the order
+marked-fine : (marks : ℕ → List Bool) (progress : Progress) → IsFine progress.server
+    → IsFine (requests_left marks progress).server
+marked-fine marks progress fine =
+    let left : (file : ℕ) (one : Held) → Among one (unmarked (marks file) (progress.server.held file))
+    → Among one (progress.server.held file) = λ file one a. among_unmarked one (marks file) (progress.server.held file) a in
+    record {
+      sound = fine.sound;
+      orderly = record {
+        opens_up = fine.orderly.opens_up;
+        open_files = fine.orderly.open_files;
+        held_up = λ file one a. fine.orderly.held_up file one (left file one a);
+        held_files = λ file one a. fine.orderly.held_files file one (left file one a);
+        held_about = λ file one a. marked_about marks progress file one.request
+            (fine.orderly.held_about file one (left file one a));
+      };
+    }
+
+-- so does a client that leaves some of its opens
+pub left-fine : (server : Server) (client : ℕ) (file_ids : List ℕ) (marks : ℕ → List Bool) → IsFine server
+    → IsFine (parts_left server client file_ids marks).server
+left-fine server client file_ids marks fine = marked-fine marks (opens_left server client file_ids)
+    (opens_left-fine server client file_ids fine)
+
+-- to break what other keys hold keeps the laws and the order
+pub others_broken-fine : (server : Server) (own : Option Key) (file : ℕ) (extent : Extent) → IsFine server
+    → IsFine (others_broken server own file extent).server
+others_broken-fine server own file extent fine =
+    let wants = others_wants server own file extent in
+    fine_goes (begun server) (others_broken server own file extent) fine
+    (others_broken-sound server own file extent fine.sound) (any_meeting Goes tries_go wants (begun server))
+    (any_meeting SameHeld tries_hold wants (begun server))
+
 -- every call leaves each first held request waiting
 pub called-waits : (server : Server) (call : Call) → EveryoneWaits server → EveryoneWaits (called server call).server
 called-waits server call e = any_call server (λ call start after. EveryoneWaits after.server) (record {
@@ -202,6 +287,10 @@ called-waits server call e = any_call server (λ call start after. EveryoneWaits
   scavenges = λ file_id left. all_passes-wait (opens_dropped (is_left_behind file_id) (begun server))
       (dropped-fine (is_left_behind file_id) (begun server) e.fine);
   withdraws = λ file marks some. all_passes-wait (requests_lost server file marks) (withdrawn-fine server file marks e.fine);
+  gives_up = λ own file extent. all_passes-wait (others_broken server own file extent)
+      (others_broken-fine server own file extent e.fine);
+  leaves = λ client file_ids marks up. all_passes-wait (parts_left server client file_ids marks)
+      (left-fine server client file_ids marks e.fine);
 }) call
 
 -- the first server waits well

@@ -9,6 +9,7 @@ use Rattle.lease_laws.proofs.Words.{is_other_on, key_added, key_before, key_eq, 
 use Rattle.lease_laws.proofs.Words.{lease_of_open, map, no_lease, nothing_cached, open_key_added}
 use Rattle.lease_laws.proofs.Words.{own_key, refl, subst, sym, true, true≢false, wants_where}
 use Rattle.lease_laws.proofs.Words.{without_handle, without_write, write_wants}
+use Rattle.lease_laws.proofs.Words.{Extent, others_wants}
 use Rattle.lease_laws.proofs.server.Keys.{is_key-refl, lease_by-key}
 use Rattle.lease_laws.proofs.server.Lists.{if_cases, clash, and_parts, not_true, among_filter, among_filtered, among_map}
 use Rattle.lease_laws.proofs.server.States.{without_write-lowered, without_handle-lowered, nothing-lowered}
@@ -154,6 +155,17 @@ all_wants-fit server own file s = wants_where-fit server
       (λ e. clash (holds_any (lease_of_open server one).state) holds (ap (λ l. holds_any l.state) e)),
       nothing-lowered (lease_of_open server one).state holds,
     ))
+
+-- what other keys are to give up fits
+pub others_wants-fit : (server : Server) (own : Option Key) (file : ℕ) (extent : Extent) → IsSound server
+    → AllFit server (others_wants server own file extent)
+others_wants-fit server own file Extent.Handles s = wants_where-fit server
+    (λ one. is_other_on own file one && (lease_of_open server one).state.handle) without_handle s
+    (λ one t form. let holds = (and_parts (is_other_on own file one) (lease_of_open server one).state.handle t).1 in (
+      (λ e. clash (lease_of_open server one).state.handle holds (ap (λ l. l.state.handle) e)),
+      without_handle-lowered (lease_of_open server one).state form holds,
+    ))
+others_wants-fit server own file Extent.All s = all_wants-fit server own file s
 
 -- all that a look at a request wants fits
 pub needs-fit : (server : Server) (client : ℕ) (request : FileRequest) (wants : List Want) → IsSound server

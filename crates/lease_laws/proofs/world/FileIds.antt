@@ -9,6 +9,7 @@ use Rattle.lease_laws.proofs.Words.{new_server_under, not, noted, opened_count, 
 use Rattle.lease_laws.proofs.Words.{reverse, served, starts_from, step_taken, stepped_in, steps_taken, subst, sym, true}
 use Rattle.lease_laws.proofs.Words.{was_opened, without}
 use Rattle.lease_laws.proofs.Words.{Rules}
+use Rattle.lease_laws.proofs.Words.{is_lost_of, is_named, parted}
 use Rattle.lease_laws.proofs.records.Runs.{all_starts, all_reversed}
 use Rattle.lease_laws.proofs.server.Calls.{new_server-sound, called-sound}
 use Rattle.lease_laws.proofs.server.Goes.{IsOld, IsNew}
@@ -180,6 +181,18 @@ cut_same server client one a =
     subst (IsSame server) (sym x.2) (disconnected_same server client x.0
     (among_filter (λ o. not (is_lost server client o)) x.0 server.opens x.1).0)
 
+parted_same : (server : Server) (test : Open → Bool) (one : Open) → Among one server.opens → IsSame server (parted test one)
+parted_same server test one a = if_cases (IsSame server) (test one) (record one { connected = false }) one
+    (λ e. record { was = one; was_there = a; same_id = refl; same_file = refl; same_client = refl })
+    (λ e. here server one a)
+
+leave_same : (server : Server) (test lost : Open → Bool) (one : Open)
+    → Among one (map (parted test) (without lost server.opens)) → IsSame server one
+leave_same server test lost one a =
+    let x = among_map (parted test) one (without lost server.opens) a in
+    subst (IsSame server) (sym x.2) (parted_same server test x.0
+    (among_filter (λ o. not (lost o)) x.0 server.opens x.1).0)
+
 AllSame : Server → Progress → Type 0
 AllSame server progress =
     (progress.server.last_id ≡ server.last_id) × ((one : Open) → Among one progress.server.opens → IsSame server one)
@@ -195,6 +208,12 @@ begun_same server call = any_call server (λ call start after. AllSame server st
   expires = λ key breaks. (refl, left_same server (has_key key));
   scavenges = λ file_id left. (refl, left_same server (is_left_behind file_id));
   withdraws = λ file marks some. (refl, here server);
+  gives_up = λ own file extent. (refl, here server);
+  leaves = λ client file_ids marks up. (
+    refl,
+    leave_same server (is_named client file_ids)
+        (is_lost_of server (is_named client file_ids)),
+  );
 }) call
 
 pub begun_counted : (past : List Fact) (server : Server) (call : Call) → IsCounted past server

@@ -166,6 +166,8 @@ begun_contents server call = any_call server (λ call start after. start.server.
   expires = λ key breaks. refl;
   scavenges = λ file_id left. refl;
   withdraws = λ file marks some. refl;
+  gives_up = λ own file extent. refl;
+  leaves = λ client file_ids marks up. refl;
 }) call
 
 called_fits : (server : Server) (call : Call) → IsSound server → WaitsWell server → DoFit server.contents

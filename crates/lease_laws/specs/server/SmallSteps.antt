@@ -13,7 +13,7 @@ use Rattle.lease_model.specs.server.Acknowledge.{acknowledged}
 use Rattle.lease_model.specs.server.Answers.{concluded}
 use Rattle.lease_model.specs.server.Attempt.{Outcome, is_left_open}
 use Rattle.lease_model.specs.server.Calls.{Call, called, join, file_asked, is_lost, opens_disconnected, client_forgotten}
-use Rattle.lease_model.specs.server.Calls.{key_expired, is_left_behind}
+use Rattle.lease_model.specs.server.Calls.{is_left_behind, is_lost_of, is_named, key_expired, opens_parted, requests_left}
 use Rattle.lease_model.specs.server.Findings.{awaits, connected_open}
 use Rattle.lease_model.specs.server.Naming.{own_key}
 use Rattle.lease_model.specs.server.Progress.{Progress, begun, opens_dropped, lease_lowered, break_begun, request_held, held_left}
@@ -230,6 +230,12 @@ call_begun server (Call.Scavenge file_id) =
 call_begun server (Call.Withdraw file marks) =
     if has_marked marks (server.held file)
     then held_left file (unmarked marks (server.held file)) (begun server)
+    else begun server
+call_begun server (Call.GiveUp own file extent) = begun server
+call_begun server (Call.Leave client file_ids marks) =
+    if server.present client
+    then requests_left marks (opens_parted (is_named client file_ids)
+    (opens_dropped (is_lost_of server (is_named client file_ids)) (begun server)))
     else begun server
 
 -- Every call goes by guarded small steps.

@@ -1,8 +1,8 @@
 -- The laws of waiting: who is connected, where requests are held, and that each waits for a break.
-use Rattle.std.specs.Prelude.{◌≡◌, ℕ, ◌≤◌, true, false, Some, None, List, ◌∷◌, ◌++◌}
+use Rattle.std.specs.Prelude.{◌≡◌, ℕ, ◌≤◌, true, false, Some, None, List, [], ◌∷◌, ◌++◌}
 use Rattle.lease_model.specs.messages.Requests.{FileRequest}
 use Rattle.lease_laws.specs.server.Laws.{Among, HasToWait, IsSound}
-use Rattle.lease_model.specs.server.State.{Server, Open, Held, has_file, has_key}
+use Rattle.lease_model.specs.server.State.{Server, Open, Held, has_file, has_key, is_breaking}
 use Rattle.lease_model.specs.server.Findings.{connected_open}
 use Rattle.lease_model.specs.server.Naming.{own_key}
 use Rattle.lease_model.specs.server.Lanes.{is_behind}
@@ -67,3 +67,10 @@ WritersDontWait = (server : Server) (key : Key) (one : Open) (before : List Held
     → Among one server.opens → has_key key one ≡ true
     → server.held one.file ≡ before ++ held ∷ behind → is_behind server.rules held before ≡ false
     → IsUnder server held.client held.request key → ⊥
+
+-- On a file of which no lease is breaking nothing waits.
+abbrev pub NothingWaitsIdly : Type 0
+NothingWaitsIdly = (server : Server) (file : ℕ) → WaitsWell server
+    → ((key : Key) (one : Open) → Among one server.opens → one.file ≡ file → has_key key one ≡ true
+    → is_breaking (server.leases key) ≡ false)
+    → server.held file ≡ []

@@ -1,4 +1,5 @@
--- The calls of the server: a client's connection comes or goes, a request comes or is taken back, a timer runs out.
+-- The calls of the server: a client's connection comes or goes, a request comes or is taken back, a timer runs out, a client
+-- leaves some of its opens, other keys give up what they hold.
 -- A call that doesn't apply changes nothing and gives nothing out.
 use Rattle.std.specs.Prelude.{ℕ, Bool, true, false, Option, Some, None, List, [], map, Result, Ok, Err, if◌then◌else◌, ◌==◌, ◌&&◌}
 use Rattle.std.specs.Prelude.{not}
@@ -7,6 +8,7 @@ use Rattle.lease_state.specs.declared.status.Status.{Status}
 use Rattle.lease_model.specs.server.Acknowledge.{acknowledged}
 use Rattle.lease_model.specs.server.Answers.{concluded}
 use Rattle.lease_model.specs.server.Attempt.{Outcome, tried}
+use Rattle.lease_model.specs.server.GivingUp.{Extent, others_broken}
 use Rattle.lease_model.specs.values.Keys.{Key}
 use Rattle.lease_model.specs.values.Lists.{without, unmarked, has_marked}
 use Rattle.lease_model.specs.server.Passes.{all_passes}
@@ -112,6 +114,35 @@ cut server client =
     (opens_dropped (is_lost server client) (begun server))))
     else begun server
 
+-- the opens of the client that have one of these FileIds
+abbrev pub is_named : ℕ → List ℕ → Open → Bool
+is_named client file_ids one = one.client == client && list_any (λ file_id. one.file_id == file_id) file_ids
+
+-- those that end when they are left: connected ones that don't outlive a connection
+abbrev pub is_lost_of : Server → (Open → Bool) → Open → Bool
+is_lost_of server test one = test one && one.connected && not (outlives_connection server one)
+
+abbrev pub parted : (Open → Bool) → Open → Open
+parted test one = if test one then record one { connected = false } else one
+
+abbrev pub opens_parted : (Open → Bool) → Progress → Progress
+opens_parted test progress = stepped progress
+    (record progress.server { opens = map (parted test) progress.server.opens }) []
+
+-- on each file the requests that are marked, place by place, wait no longer
+abbrev pub requests_left : (ℕ → List Bool) → Progress → Progress
+requests_left marks progress = stepped progress
+    (record progress.server { held = λ file. unmarked (marks file) (progress.server.held file) }) []
+
+-- A client leaves some of its opens (own): the connection or the session that made them goes, and the client stays, by another
+-- one. They stay or end as they would were the client cut (3.3.7.1), and requests that are marked wait no longer.
+unfoldable pub leave : Server → ℕ → List ℕ → (ℕ → List Bool) → Progress
+leave server client file_ids marks =
+    if server.present client
+    then all_passes (requests_left marks (opens_parted (is_named client file_ids)
+    (opens_dropped (is_lost_of server (is_named client file_ids)) (begun server))))
+    else begun server
+
 abbrev pub key_expired : Key → Progress → Progress
 key_expired key progress =
     stepped progress (record progress.server { expired = put_key progress.server.expired key true }) []
@@ -141,6 +172,10 @@ withdraw server file marks =
     then all_passes (held_left file (unmarked marks (server.held file)) (begun server))
     else begun server
 
+-- Other keys on a file give up what they hold (own). Then what waits is tried again.
+unfoldable pub give_up : Server → Option Key → ℕ → Extent → Progress
+give_up server own file extent = all_passes (others_broken server own file extent)
+
 -- any call
 pub data Call : Type 0 where
   Join : (client : ℕ) → Call
@@ -149,6 +184,8 @@ pub data Call : Type 0 where
   Expire : (key : Key) → Call
   Scavenge : (file_id : ℕ) → Call
   Withdraw : (file : ℕ) (marks : List Bool) → Call
+  GiveUp : (own : Option Key) (file : ℕ) (extent : Extent) → Call
+  Leave : (client : ℕ) (file_ids : List ℕ) (marks : ℕ → List Bool) → Call
 
 abbrev pub called : Server → Call → Progress
 called server (Call.Join client) = join server client
@@ -157,3 +194,5 @@ called server (Call.Cut client) = cut server client
 called server (Call.Expire key) = expire server key
 called server (Call.Scavenge file_id) = scavenge server file_id
 called server (Call.Withdraw file marks) = withdraw server file marks
+called server (Call.GiveUp own file extent) = give_up server own file extent
+called server (Call.Leave client file_ids marks) = leave server client file_ids marks

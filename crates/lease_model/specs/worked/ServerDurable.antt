@@ -1,5 +1,6 @@
--- Worked calls of a server: when an open is durable, which reconnects are refused, and what a scavenge closes.
-use Rattle.std.specs.Prelude.{◌≡◌, true, false, List, [], ◌∷◌}
+-- Worked calls of a server: when an open is durable, which reconnects are refused, what a scavenge closes, and what a client
+-- leaves.
+use Rattle.std.specs.Prelude.{◌≡◌, ◌==◌, true, false, List, [], ◌∷◌, if◌then◌else◌}
 use Rattle.lease_state.specs.State.{nothing_cached}
 use Rattle.lease_state.specs.declared.access.Access.{Access}
 use Rattle.lease_state.specs.declared.access.Share.{Share}
@@ -9,7 +10,7 @@ use Rattle.lease_model.specs.server.Calls.{Call, called}
 use Rattle.lease_model.specs.server.Progress.{begun}
 use Rattle.lease_model.specs.server.State.{Server}
 use Rattle.lease_model.specs.worked.MessageWords.{keyed, keyed_durable, plain, plain_durable, reconnecting, plain_reconnecting}
-use Rattle.lease_model.specs.worked.MessageWords.{read_of, write_of, created, created_plain, break_of}
+use Rattle.lease_model.specs.worked.MessageWords.{acknowledging, break_of, created, created_plain, done_acknowledging, read_of, write_of}
 use Rattle.lease_model.specs.worked.ServerWords.{server_after, outs_along, three_joined}
 use Rattle.lease_model.specs.worked.ValueWords.{R, RH, RWH, at, sample_key, later_key}
 
@@ -97,3 +98,73 @@ ConnectedNotScavenged =
     ∷ []
     ∷ (Out.Sent 1 (Reply.CreateFailed 1 Status.ObjectNameNotFound) ∷ [])
     ∷ [])
+
+abbrev pub asked_in_vain_calls : List Call
+asked_in_vain_calls =
+    Call.Receive 1 (keyed_durable 1 Access.ReadWrite Share.ReadWrite sample_key R)
+    ∷ Call.Receive 1 (keyed 1 Access.ReadWrite Share.ReadWrite sample_key RH)
+    ∷ Call.Cut 1
+    ∷ Call.Join 1
+    ∷ Call.Receive 1 (reconnecting 1 Access.ReadWrite Share.ReadWrite sample_key 1)
+    ∷ Call.Receive 1 (reconnecting 1 Access.ReadWrite Share.ReadWrite sample_key 2)
+    ∷ []
+
+-- An open whose create was answered without durability isn't kept, though it was asked for and the lease holds H later.
+abbrev pub AskedInVain : Type 0
+AskedInVain = outs_along three_joined asked_in_vain_calls ≡
+    (Out.Opened 1 1 ∷ Out.Sent 1 (created 1 1 sample_key R false false) ∷ [])
+    ∷ (Out.Opened 1 1 ∷ Out.Sent 1 (created 1 2 sample_key RH false false) ∷ [])
+    ∷ []
+    ∷ []
+    ∷ (Out.Sent 1 (Reply.CreateFailed 1 Status.ObjectNameNotFound) ∷ [])
+    ∷ (Out.Sent 1 (Reply.CreateFailed 1 Status.ObjectNameNotFound) ∷ [])
+    ∷ []
+
+abbrev pub leaving_calls : List Call
+leaving_calls =
+    Call.Receive 1 (keyed_durable 1 Access.ReadWrite Share.ReadWrite sample_key RWH)
+    ∷ Call.Receive 1 (plain 2 Access.ReadWrite Share.ReadWrite)
+    ∷ Call.Receive 1 (plain 2 Access.ReadWrite Share.ReadWrite)
+    ∷ Call.Receive 2 (plain 2 Access.ReadWrite Share.ReadWrite)
+    ∷ Call.Leave 1 (1 ∷ 2 ∷ 4 ∷ []) (λ file. [])
+    ∷ Call.Receive 1 (read_of 1)
+    ∷ Call.Receive 1 (read_of 2)
+    ∷ Call.Receive 1 (read_of 3)
+    ∷ Call.Receive 2 (read_of 4)
+    ∷ Call.Receive 1 (reconnecting 1 Access.ReadWrite Share.ReadWrite sample_key 1)
+    ∷ []
+
+-- A client leaves a durable open, another one, and one that isn't its own: the first is kept and connected again, the second
+-- is closed, and those that it didn't leave, or that are another's, stay as they were.
+abbrev pub LeftAndKept : Type 0
+LeftAndKept = outs_along three_joined leaving_calls ≡
+    (Out.Opened 1 1 ∷ Out.Sent 1 (created 1 1 sample_key RWH false true) ∷ [])
+    ∷ (Out.Opened 2 1 ∷ Out.Sent 1 (created_plain 2 2) ∷ [])
+    ∷ (Out.Opened 2 1 ∷ Out.Sent 1 (created_plain 2 3) ∷ [])
+    ∷ (Out.Opened 2 2 ∷ Out.Sent 2 (created_plain 2 4) ∷ [])
+    ∷ []
+    ∷ (Out.Sent 1 (Reply.ReadFailed 1 Status.FileClosed) ∷ [])
+    ∷ (Out.Sent 1 (Reply.ReadFailed 2 Status.FileClosed) ∷ [])
+    ∷ (Out.Sent 1 (Reply.ReadDone 3 []) ∷ [])
+    ∷ (Out.Sent 2 (Reply.ReadDone 4 []) ∷ [])
+    ∷ (Out.Sent 1 (created 1 1 sample_key RWH false false) ∷ [])
+    ∷ []
+
+abbrev pub waiting_for_nobody_calls : List Call
+waiting_for_nobody_calls =
+    Call.Receive 1 (keyed 1 Access.ReadWrite Share.ReadWrite sample_key RWH)
+    ∷ Call.Receive 2 (plain 1 Access.ReadWrite Share.ReadWrite)
+    ∷ Call.Receive 3 (plain 1 Access.ReadWrite Share.ReadWrite)
+    ∷ Call.Leave 2 [] (λ file. if file == 1 then true ∷ [] else [])
+    ∷ Call.Receive 1 (acknowledging sample_key RH)
+    ∷ []
+
+-- The create of a client that has left is answered to nobody; another's is answered.
+abbrev pub LeftWhileWaiting : Type 0
+LeftWhileWaiting = outs_along three_joined waiting_for_nobody_calls ≡
+    (Out.Opened 1 1 ∷ Out.Sent 1 (created 1 1 sample_key RWH false false) ∷ [])
+    ∷ (Out.Sent 1 (break_of sample_key RWH RH true) ∷ [])
+    ∷ []
+    ∷ []
+    ∷ (Out.Sent 1 (done_acknowledging sample_key RH) ∷ Out.Opened 1 3 ∷ Out.Sent 3 (created_plain 1 2) ∷ [])
+    ∷ []

@@ -4,6 +4,7 @@ use Rattle.lease_laws.proofs.Words.{◌≡◌, Bool, Call, FileRequest, Key, Lea
 use Rattle.lease_laws.proofs.Words.{acknowledged, all_passes, arrived, begun, call_begun, called, client_forgotten, cut, expire}
 use Rattle.lease_laws.proofs.Words.{false, file_request_arrived, has_key, has_marked, held_left, if◌then◌else◌, is_breaking}
 use Rattle.lease_laws.proofs.Words.{is_left_behind, is_lost}
+use Rattle.lease_laws.proofs.Words.{Extent, give_up, is_lost_of, is_named, leave, opens_parted, others_broken, requests_left}
 use Rattle.lease_laws.proofs.Words.{join, joined, key_expired, list_any, opens_disconnected, opens_dropped, receive, refl}
 use Rattle.lease_laws.proofs.Words.{scavenge, true, unmarked, withdraw}
 
@@ -15,8 +16,10 @@ IsIdle server (Call.Cut client) = server.present client ≡ false
 IsIdle server (Call.Expire key) = is_breaking (server.leases key) ≡ false
 IsIdle server (Call.Scavenge file_id) = list_any (is_left_behind file_id) server.opens ≡ false
 IsIdle server (Call.Withdraw file marks) = has_marked marks (server.held file) ≡ false
+IsIdle server (Call.GiveUp own file extent) = ⊥
+IsIdle server (Call.Leave client file_ids marks) = server.present client ≡ false
 
--- what a cut, an expiry and a withdrawal do before held requests are tried again
+-- what a cut, an expiry, a withdrawal and a leave do before held requests are tried again
 abbrev pub links_lost : Server → ℕ → Progress
 links_lost server client =
     client_forgotten client (opens_disconnected client (opens_dropped (is_lost server client) (begun server)))
@@ -26,6 +29,13 @@ lease_lost server key = key_expired key (opens_dropped (has_key key) (begun serv
 
 abbrev pub requests_lost : Server → ℕ → List Bool → Progress
 requests_lost server file marks = held_left file (unmarked marks (server.held file)) (begun server)
+
+abbrev pub opens_left : Server → ℕ → List ℕ → Progress
+opens_left server client file_ids = opens_parted (is_named client file_ids)
+    (opens_dropped (is_lost_of server (is_named client file_ids)) (begun server))
+
+abbrev pub parts_left : Server → ℕ → List ℕ → (ℕ → List Bool) → Progress
+parts_left server client file_ids marks = requests_left marks (opens_left server client file_ids)
 
 pub record HasCalls (server : Server) (P : Call → Progress → Progress → Type 0) : Type 0 where
   pub idle : (call : Call) → IsIdle server call → P call (begun server) (begun server)
@@ -45,6 +55,11 @@ pub record HasCalls (server : Server) (P : Call → Progress → Progress → Ty
       (all_passes (opens_dropped (is_left_behind file_id) (begun server)))
   pub withdraws : (file : ℕ) (marks : List Bool) → has_marked marks (server.held file) ≡ true
       → P (Call.Withdraw file marks) (requests_lost server file marks) (all_passes (requests_lost server file marks))
+  pub gives_up : (own : Option Key) (file : ℕ) (extent : Extent)
+      → P (Call.GiveUp own file extent) (begun server) (all_passes (others_broken server own file extent))
+  pub leaves : (client : ℕ) (file_ids : List ℕ) (marks : ℕ → List Bool) → server.present client ≡ true
+      → P (Call.Leave client file_ids marks) (parts_left server client file_ids marks)
+      (all_passes (parts_left server client file_ids marks))
 
 -- a call that applies, or doesn't
 either_way : (P : Progress → Progress → Type 0) (applies : Bool) (start after start_idle after_idle : Progress)
@@ -64,7 +79,7 @@ received server P h client (Request.OnFile request) true e = h.receives client r
 
 pub any_call : (server : Server) (P : Call → Progress → Progress → Type 0) → HasCalls server P → (call : Call)
     → P call (call_begun server call) (called server call)
-unfolding join receive cut expire scavenge withdraw
+unfolding join receive cut expire scavenge withdraw give_up leave
 any_call server P h (Call.Join client) = either_way (P (Call.Join client)) (server.present client) (begun server)
     (begun server) _ _ (h.idle (Call.Join client)) (h.joins client)
 any_call server P h (Call.Receive client request) = received server P h client request (server.present client) refl
@@ -76,6 +91,9 @@ any_call server P h (Call.Scavenge file_id) = either_way (P (Call.Scavenge file_
     (list_any (is_left_behind file_id) server.opens) _ _ _ _ (h.scavenges file_id) (h.idle (Call.Scavenge file_id))
 any_call server P h (Call.Withdraw file marks) = either_way (P (Call.Withdraw file marks))
     (has_marked marks (server.held file)) _ _ _ _ (h.withdraws file marks) (h.idle (Call.Withdraw file marks))
+any_call server P h (Call.GiveUp own file extent) = h.gives_up own file extent
+any_call server P h (Call.Leave client file_ids marks) = either_way (P (Call.Leave client file_ids marks))
+    (server.present client) _ _ _ _ (h.leaves client file_ids marks) (h.idle (Call.Leave client file_ids marks))
 
 -- ---- single calls
 

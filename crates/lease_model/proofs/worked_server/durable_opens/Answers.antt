@@ -6,6 +6,10 @@ pub returns-clause-grants : goal.returns-clause-grants
 unfolding the_server
 returns-clause-grants c = refl
 
+pub returns-clause-in_vain : goal.returns-clause-in_vain
+unfolding the_server
+returns-clause-in_vain c = refl
+
 pub returns-clause-reconnects : goal.returns-clause-reconnects
 unfolding the_server
 returns-clause-reconnects c = refl
