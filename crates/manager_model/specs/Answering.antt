@@ -7,7 +7,7 @@ use Rattle.lease_state.specs.declared.status.Status.{Status}
 use Rattle.manager_model.specs.Bare.{bare_request}
 use Rattle.manager_model.specs.Decisions.{Decision}
 use Rattle.manager_model.specs.Ending.{WasAsked}
-use Rattle.manager_model.specs.Handling.{Handling, Manager, Tagged, handling, is_of, is_under, tagged_of}
+use Rattle.manager_model.specs.Handling.{Handling, Manager, Tagged, handling, is_left, is_of, is_under, tagged_of}
 use Rattle.manager_model.specs.Hosting.{Coming, HasFreeTag, managed}
 
 -- the decision answers the request under the tag
@@ -22,6 +22,7 @@ is_answer tag (Decision.Breaks client notice) = false
 is_answer tag (Decision.Acknowledged client given) = false
 is_answer tag (Decision.NotAcknowledged client status) = false
 is_answer tag (Decision.Ended file_id) = false
+is_answer tag (Decision.LeftBehind file_id) = false
 
 -- how often it is answered
 abbrev pub answers : ℕ → List Decision → ℕ
@@ -61,12 +62,15 @@ abbrev pub taken_back : Coming → ℕ → Tagged → ℕ
 taken_back (Coming.Withdraws other client tag) file one = if other == file && is_under client tag one then 1 else 0
 taken_back coming file one = 0
 
--- 1 where it cuts the connection of its client
+-- 1 where it cuts the connection of its client, or the client leaves it
 abbrev pub cut_off : Manager → Coming → Tagged → ℕ
 cut_off manager (Coming.IsCut client) one = if manager.server.present client && is_of client one then 1 else 0
+cut_off manager (Coming.Leaves client file_ids tags) one =
+    if manager.server.present client && is_left client tags one then 1 else 0
 cut_off manager coming one = 0
 
--- What becomes of a request on a file: it is answered, or waits there as it was, or was taken back, or its client was cut.
+-- What becomes of a request on a file: it is answered, or waits there as it was, or was taken back, or its client was cut or
+-- has left it.
 --   once: it is exactly one of these, and once
 --   told: that it was taken back is told, once
 --   same: what waits there under its tag is itself

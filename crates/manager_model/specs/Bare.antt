@@ -64,3 +64,5 @@ bare_call (Call.Cut client) = Call.Cut client
 bare_call (Call.Expire key) = Call.Expire key
 bare_call (Call.Scavenge file_id) = Call.Scavenge file_id
 bare_call (Call.Withdraw file marks) = Call.Withdraw file marks
+bare_call (Call.GiveUp own file extent) = Call.GiveUp own file extent
+bare_call (Call.Leave client file_ids marks) = Call.Leave client file_ids marks

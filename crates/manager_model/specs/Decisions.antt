@@ -8,6 +8,7 @@ use Rattle.lease_model.specs.messages.Requests.{LeaseOf}
 -- Refused any of them by a status. Waits: the request waits for a break, and another decision under its tag follows.
 -- Withdrawn: it was taken back. Breaks: the client is sent the notice of a break. Acknowledged and NotAcknowledged answer an
 -- acknowledgment. Ended: an open is no more though its client didn't close it, and its host lets go of what it opened.
+-- LeftBehind: an open waits for its client from now on, and its host starts its timer.
 pub data Decision : Type 0 where
   Opened : (client tag file_id : ℕ) (answer : CreateAnswer) → Decision
   GoesOn : (client tag : ℕ) → Decision
@@ -19,6 +20,7 @@ pub data Decision : Type 0 where
   Acknowledged : (client : ℕ) (given : LeaseOf) → Decision
   NotAcknowledged : (client : ℕ) (status : Status) → Decision
   Ended : (file_id : ℕ) → Decision
+  LeftBehind : (file_id : ℕ) → Decision
 
 -- What is told in place of a reply that the server of the rules sends for the request under a tag.
 abbrev pub told_of_reply : ℕ → ℕ → Reply → List Decision

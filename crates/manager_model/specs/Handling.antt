@@ -1,6 +1,6 @@
 -- A manager of leases: the server of the rules without bytes, with the tags under which the requests that wait came. A call of
 -- it goes as the server's does, and says at each step what its host is told.
-use Rattle.std.specs.Prelude.{ℕ, ◌≡◌, ◌+◌, zero, suc, Bool, true, false, List, [], ◌∷◌, ◌++◌, map, length, if◌then◌else◌, ◌==◌}
+use Rattle.std.specs.Prelude.{ℕ, ◌≡◌, ◌+◌, zero, suc, Bool, true, false, List, [], ◌∷◌, ◌++◌, filter, map, length, if◌then◌else◌, ◌==◌}
 use Rattle.std.specs.Prelude.{◌&&◌}
 use Rattle.std.specs.Prelude.{Result, Ok, Err}
 use Rattle.lease_state.specs.declared.status.Status.{Status}
@@ -10,6 +10,7 @@ use Rattle.lease_model.specs.server.Acknowledge.{acknowledged}
 use Rattle.lease_model.specs.server.Answers.{concluded}
 use Rattle.lease_model.specs.server.Attempt.{Outcome, tried}
 use Rattle.lease_model.specs.server.Calls as calls
+use Rattle.lease_model.specs.server.GivingUp.{Extent, others_broken}
 use Rattle.lease_model.specs.server.Lanes.{as_held, is_behind}
 use Rattle.lease_model.specs.server.Progress.{Progress, begun, held_left, opens_dropped, refused, request_held}
 use Rattle.lease_model.specs.server.State.{Server, Held, Open, has_key, is_breaking, new_server_under}
@@ -67,6 +68,11 @@ ended_between before after = map (λ (one : Open). Decision.Ended one.file_id) (
 -- The server is about to come to this: which opens end by that is told.
 abbrev pub ends : Server → Handling → Handling
 ends after now = record { manager = now.manager; told = now.told ++ ended_between now.manager.server after }
+
+-- Of the opens that pass the test, those that wait for their client from now on.
+unfoldable pub left_behind : (Open → Bool) → Server → List Decision
+left_behind test server = map (λ (one : Open). Decision.LeftBehind one.file_id)
+    (filter (λ one. test one && one.connected && calls.outlives_connection server one) server.opens)
 
 -- the server has come to this, and only the ends of opens are told
 abbrev pub at_server : Server → Handling → Handling
@@ -214,12 +220,48 @@ lost client now = record {
     server = (links_lost now.manager.server client).server;
     queues = λ file. without (is_of client) (now.manager.queues file);
   };
-  told = now.told ++ ended_between now.manager.server (links_lost now.manager.server client).server;
+  told = (now.told ++ ended_between now.manager.server (links_lost now.manager.server client).server)
+      ++ left_behind (λ one. one.client == client) now.manager.server;
 }
 
 unfoldable pub cut : Manager → ℕ → Handling
 cut manager client =
     if manager.server.present client then all_passes (lost client (handling manager)) else handling manager
+
+-- Of the client's requests under these tags that wait nothing more is told either.
+abbrev pub is_left : ℕ → List ℕ → Tagged → Bool
+is_left client tags one = is_of client one && list_any (λ tag. one.tag == tag) tags
+
+abbrev pub opens_left : Server → ℕ → List ℕ → Progress
+opens_left server client file_ids = calls.opens_parted (calls.is_named client file_ids)
+    (opens_dropped (calls.is_lost_of server (calls.is_named client file_ids)) (begun server))
+
+abbrev pub parts_left : Manager → ℕ → List ℕ → List ℕ → Server
+parts_left manager client file_ids tags = record (opens_left manager.server client file_ids).server {
+  held = λ file. held_in (without (is_left client tags) (manager.queues file));
+}
+
+abbrev pub left : ℕ → List ℕ → List ℕ → Handling → Handling
+left client file_ids tags now = record {
+  manager = record {
+    server = parts_left now.manager client file_ids tags;
+    queues = λ file. without (is_left client tags) (now.manager.queues file);
+  };
+  told = (now.told ++ ended_between now.manager.server (parts_left now.manager client file_ids tags))
+      ++ left_behind (calls.is_named client file_ids) now.manager.server;
+}
+
+-- A client leaves these of its opens, and what it asked under these tags.
+unfoldable pub leave : Manager → ℕ → List ℕ → List ℕ → Handling
+leave manager client file_ids tags =
+    if manager.server.present client
+    then all_passes (left client file_ids tags (handling manager))
+    else handling manager
+
+-- Other keys on a file give up what they hold.
+unfoldable pub give_up : Manager → Option Key → ℕ → Extent → Handling
+give_up manager own file extent = all_passes (gone_on 0 (others_broken manager.server own file extent)
+    (ends (others_broken manager.server own file extent).server (handling manager)))
 
 unfoldable pub expire : Manager → Key → Handling
 expire manager key =

@@ -14,7 +14,8 @@ use Rattle.lease_model.specs.values.Tables.{put}
 use Rattle.manager_model.specs.Bare.{bare, bare_held, bare_request}
 use Rattle.manager_model.specs.Decisions.{Decision}
 use Rattle.manager_model.specs.Handling.{Handling, Manager, Tagged, acknowledge, cut, expire, is_under, join, receive, scavenge}
-use Rattle.manager_model.specs.Handling.{withdraw}
+use Rattle.manager_model.specs.Handling.{give_up, is_left, leave, withdraw}
+use Rattle.lease_model.specs.server.GivingUp.{Extent}
 
 -- A host: the bytes of its files, and of each open, by its FileId, the file.
 pub record Host : Type 0 where
@@ -74,6 +75,7 @@ does requests (Decision.Breaks client notice) done = notes (Out.Sent client (Rep
 does requests (Decision.Acknowledged client given) done = notes (Out.Sent client (Reply.AckDone (Some given)) ∷ []) done
 does requests (Decision.NotAcknowledged client status) done = notes (Out.Sent client (Reply.AckFailed status) ∷ []) done
 does requests (Decision.Ended file_id) done = done
+does requests (Decision.LeftBehind file_id) done = done
 
 -- and for all of them, in their order
 unfoldable pub does_all : (ℕ → FileRequest) → List Decision → Hosted → Hosted
@@ -116,6 +118,8 @@ pub data Coming : Type 0 where
   Expires : (key : Key) → Coming
   Scavenges : (file_id : ℕ) → Coming
   Withdraws : (file client tag : ℕ) → Coming
+  GivesUp : (own : Option Key) (file : ℕ) (extent : Extent) → Coming
+  Leaves : (client : ℕ) (file_ids tags : List ℕ) → Coming
 
 -- the manager isn't told the bytes
 abbrev pub managed : Manager → Coming → Handling
@@ -126,8 +130,10 @@ managed manager (Coming.IsCut client) = cut manager client
 managed manager (Coming.Expires key) = expire manager key
 managed manager (Coming.Scavenges file_id) = scavenge manager file_id
 managed manager (Coming.Withdraws file client tag) = withdraw manager file client tag
+managed manager (Coming.GivesUp own file extent) = give_up manager own file extent
+managed manager (Coming.Leaves client file_ids tags) = leave manager client file_ids tags
 
--- The call of the server. What is withdrawn is marked where it waits, and it waits on the server where it waits here.
+-- The call of the server. What is withdrawn or left is marked where it waits, and it waits on the server where it waits here.
 abbrev pub call_of : Manager → Coming → Call
 call_of manager (Coming.Joins client) = Call.Join client
 call_of manager (Coming.Asks client tag request) = Call.Receive client (Request.OnFile request)
@@ -136,6 +142,9 @@ call_of manager (Coming.IsCut client) = Call.Cut client
 call_of manager (Coming.Expires key) = Call.Expire key
 call_of manager (Coming.Scavenges file_id) = Call.Scavenge file_id
 call_of manager (Coming.Withdraws file client tag) = Call.Withdraw file (map (is_under client tag) (manager.queues file))
+call_of manager (Coming.GivesUp own file extent) = Call.GiveUp own file extent
+call_of manager (Coming.Leaves client file_ids tags) =
+    Call.Leave client file_ids (λ file. map (is_left client tags) (manager.queues file))
 
 -- what the host has then asked under each tag
 abbrev pub asked_by : (ℕ → FileRequest) → Coming → ℕ → FileRequest

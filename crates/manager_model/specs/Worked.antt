@@ -1,13 +1,14 @@
 -- Worked calls of a manager, and what its host does.
 use Rattle.std.specs.Prelude.{◌≡◌, ℕ, true, false, Some, None, List, [], ◌∷◌}
-use Rattle.lease_state.specs.State.{State}
+use Rattle.lease_state.specs.State.{State, nothing_cached}
 use Rattle.lease_state.specs.declared.access.Access.{Access}
 use Rattle.lease_state.specs.declared.access.Share.{Share}
 use Rattle.lease_state.specs.declared.status.Status.{Status}
 use Rattle.lease_model.specs.messages.Replies.{CreateAnswer, BreakNotice}
 use Rattle.lease_model.specs.messages.Requests.{FileRequest, LeaseOf}
+use Rattle.lease_model.specs.server.GivingUp.{Extent}
 use Rattle.lease_model.specs.worked.ServerWords.{two_files}
-use Rattle.lease_model.specs.worked.ValueWords.{RH, RWH, at, sample_key, later_key}
+use Rattle.lease_model.specs.worked.ValueWords.{RH, RWH, at, later_key, sample_key, third_guid}
 use Rattle.manager_model.specs.Bare.{bare}
 use Rattle.manager_model.specs.Decisions.{Decision}
 use Rattle.manager_model.specs.Handling.{Manager}
@@ -40,9 +41,16 @@ host_after requests manager host (coming ∷ comings) = host_after (asked_by req
     (managed manager coming).manager (hosted (asked_by requests coming) host (managed manager coming)).host comings
 
 -- a create under a key, and the lease that it is told
-abbrev pub create_under : List ℕ → State → FileRequest
-create_under key want = FileRequest.Create 1 Access.ReadWrite Share.ReadWrite
+abbrev pub create_on : ℕ → List ℕ → State → FileRequest
+create_on file key want = FileRequest.Create file Access.ReadWrite Share.ReadWrite
     (Some (record { lease = Some (record { key = key; state = want }); durable = false; reconnect = None }))
+
+abbrev pub create_under : List ℕ → State → FileRequest
+create_under key want = create_on 1 key want
+
+-- sixteen bytes 33
+abbrev pub other_key : List ℕ
+other_key = third_guid
 
 abbrev pub lease_of : List ℕ → State → CreateAnswer
 lease_of key state = record {
@@ -116,7 +124,58 @@ abbrev pub LeftIsTold : Type 0
 LeftIsTold = told_along first_manager left_calls ≡
     [] ∷ []
     ∷ (Decision.Opened 1 10 1 (record (lease_of sample_key RWH) { durable = true }) ∷ [])
-    ∷ []
+    ∷ (Decision.LeftBehind 1 ∷ [])
     ∷ (Decision.Ended 1 ∷ Decision.Opened 2 20 2 (lease_of later_key RWH) ∷ [])
     ∷ (Decision.Ended 2 ∷ [])
+    ∷ []
+
+-- A client leaves a durable open, one that isn't, and a create that waits, and stays: the first waits for it, the second ends, and
+-- of the create nothing is told once the other client has closed its open. Another of its creates is answered.
+abbrev pub leaving_calls : List Coming
+leaving_calls =
+    Coming.Joins 1 ∷ Coming.Joins 2
+    ∷ Coming.Asks 1 10 (FileRequest.Create 1 Access.ReadWrite Share.ReadWrite
+    (Some (record { lease = Some (record { key = sample_key; state = RWH }); durable = true; reconnect = None })))
+    ∷ Coming.Asks 1 11 (FileRequest.Create 2 Access.ReadWrite Share.ReadWrite
+    (Some (record { lease = None; durable = false; reconnect = None })))
+    ∷ Coming.Leaves 1 (1 ∷ 2 ∷ []) []
+    ∷ Coming.Asks 2 20 (create_on 2 later_key RWH)
+    ∷ Coming.Asks 1 12 (create_on 2 sample_key RWH)
+    ∷ Coming.Asks 1 13 (create_on 2 other_key RWH)
+    ∷ Coming.Leaves 1 [] (12 ∷ 20 ∷ [])
+    ∷ Coming.Asks 2 21 (FileRequest.Close 3)
+    ∷ []
+
+abbrev pub LeavingIsTold : Type 0
+LeavingIsTold = told_along first_manager leaving_calls ≡
+    [] ∷ []
+    ∷ (Decision.Opened 1 10 1 (record (lease_of sample_key RWH) { durable = true }) ∷ [])
+    ∷ (Decision.Opened 1 11 2 (record { lease = None; durable = false }) ∷ [])
+    ∷ (Decision.Ended 2 ∷ Decision.LeftBehind 1 ∷ [])
+    ∷ (Decision.Opened 2 20 3 (lease_of later_key RWH) ∷ [])
+    ∷ (Decision.Refused 1 12 Status.InvalidParameter ∷ [])
+    ∷ (Decision.Breaks 2 (break_to later_key RWH RH) ∷ Decision.Waits 1 13 ∷ [])
+    ∷ []
+    ∷ (Decision.Closed 2 21 ∷ Decision.Opened 1 13 4 (lease_of other_key RWH) ∷ [])
+    ∷ []
+
+-- What a program of the host's is about to change is given up by one break; a key that is spared gives up nothing.
+abbrev pub giving_up_calls : List Coming
+giving_up_calls =
+    Coming.Joins 1
+    ∷ Coming.Asks 1 10 (create_under sample_key RWH)
+    ∷ Coming.GivesUp (Some (record { client = 1; bytes = sample_key })) 1 Extent.All
+    ∷ Coming.GivesUp None 1 Extent.All
+    ∷ Coming.Acknowledges 1 (Some (acknowledged sample_key nothing_cached))
+    ∷ Coming.GivesUp None 1 Extent.All
+    ∷ []
+
+abbrev pub GivingUpIsTold : Type 0
+GivingUpIsTold = told_along first_manager giving_up_calls ≡
+    []
+    ∷ (Decision.Opened 1 10 1 (lease_of sample_key RWH) ∷ [])
+    ∷ []
+    ∷ (Decision.Breaks 1 (break_to sample_key RWH nothing_cached) ∷ [])
+    ∷ (Decision.Acknowledged 1 (acknowledged sample_key nothing_cached) ∷ [])
+    ∷ []
     ∷ []

@@ -1,4 +1,5 @@
-ghost use Rattle.manager_model.specs.Worked.{LeftIsTold, NoneIsWithdrawn, SharedIsTold, WithdrawnIsTold};
+ghost use Rattle.manager_model.specs.Worked.{GivingUpIsTold, LeavingIsTold, LeftIsTold, NoneIsWithdrawn, SharedIsTold};
+ghost use Rattle.manager_model.specs.Worked.{WithdrawnIsTold};
 ghost use Rattle.manager_model.specs.Worked.{WriteIsThere};
 
 /// Two clients share a file: the second one's create waits until the first one has flushed and has acknowledged the break of its
@@ -18,4 +19,15 @@ pub fn managers_withdraw()
 /// durable, when its client is cut. Does nothing.
 pub fn managers_tell_what_ends()
     ensures ends { LeftIsTold }
+{}
+
+/// A client leaves two opens and a create that waits, and stays connected: one open waits for it, one ends, and the create is
+/// forgotten. Does nothing.
+pub fn managers_tell_what_is_left()
+    ensures { LeavingIsTold }
+{}
+
+/// A lease gives up all that it caches by one break, for a change without an open. Does nothing.
+pub fn managers_tell_what_is_given_up()
+    ensures { GivingUpIsTold }
 {}

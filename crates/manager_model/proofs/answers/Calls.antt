@@ -4,16 +4,17 @@ use Rattle.lease_laws.proofs.Words.{Result, Server, Status, ℕ, [], ap, arith, 
 use Rattle.lease_laws.proofs.Words.{file_asked, held_left, inl, inr, is_behind, is_breaking, is_left_behind, list_any, not, put}
 use Rattle.lease_laws.proofs.Words.{acknowledged, append-nil, length, refl, true≢false, subst, sym, true, without, Option, Key}
 use Rattle.lease_laws.proofs.Words.{refused}
+use Rattle.lease_laws.proofs.Words.{Bool, Extent, Open, is_named, others_broken}
 use Rattle.lease_laws.proofs.server.Lists.{clash, either, if_cases, not_true}
 use Rattle.manager_model.specs.Answering.{AnswersComeOnce, IsOn, IsOnce, WaitersWereAsked, answers, is_answer, waiting_under}
 use Rattle.manager_model.specs.Bare.{bare_request}
 use Rattle.manager_model.specs.Decisions.{Decision, told_of}
 use Rattle.manager_model.specs.Handling.{Handling, Manager, Pass, Tagged, ended_between, ends, gone_on, handling, held_in, is_of}
-use Rattle.manager_model.specs.Handling.{left_to_wait, lost, one_pass, pass_answered, tagged_of, is_under}
+use Rattle.manager_model.specs.Handling.{is_left, left_behind, left_to_wait, lost, one_pass, pass_answered, tagged_of, is_under}
 use Rattle.manager_model.specs.Handling as rules
 use Rattle.manager_model.specs.Hosting.{Coming}
 use Rattle.manager_model.proofs.answers.Once.{Counts, acknowledgments_answer_none, counts_answered, counts_both, counts_fewer}
-use Rattle.manager_model.proofs.answers.Once.{counts_next, counts_still, ends_answer_none, ends_answer_once, ends_are_not_left}
+use Rattle.manager_model.proofs.answers.Once.{counts_next, counts_still, ends_answer_none, ends_answer_once, ends_are_not_left, others_answer_none, parts_answer_none}
 use Rattle.manager_model.proofs.answers.Once.{left_alike, one_if, refusal_answers, tries_answer_none}
 use Rattle.lease_laws.proofs.server.cases.Ends.{IsLeft}
 use Rattle.manager_model.proofs.ends.Calls.{any_tells}
@@ -264,16 +265,51 @@ fewer_counts at file total left now after none told here fewer c = record {
   others = λ other apart. let less = fewer other in let was = c.others other apart in omega (arith, less, was);
 }
 
+-- opens end, or wait for their client, and some requests wait no longer
+parts_count : (at file total : ℕ) (manager : Manager) (test : Open → Bool) (gone : Tagged → Bool) (after : Server)
+    → Counts at file total (handling manager)
+    → Counts at file (waiting_under at (without gone (manager.queues file))) (record {
+      manager = record { server = after; queues = λ other. without gone (manager.queues other) };
+      told = ended_between manager.server after ++ left_behind test manager.server;
+    })
+parts_count at file total manager test gone after c =
+    fewer_counts at file total _ (handling manager) _ refl (parts_answer_none at test manager.server after) refl
+    (λ other. counts_fewer (λ (one : Tagged). one.tag == at) (λ (one : Tagged). not (gone one)) (manager.queues other)) c
+
 pub cuts_count : (at file total client : ℕ) (manager : Manager) → manager.server.present client ≡ true
     → Counts at file total (handling manager)
     → Counts at file (waiting_under at (without (is_of client) (manager.queues file))) (rules.cut manager client)
 unfolding rules.cut
 cuts_count at file total client manager up c =
     rw (up) (passes_count at file _ (lost client (handling manager))
-    (fewer_counts at file total _ (handling manager) (lost client (handling manager)) refl
-    (ends_answer_none at manager.server (rules.links_lost manager.server client).server) refl
-    (λ other. counts_fewer (λ (one : Tagged). one.tag == at) (λ (one : Tagged). not (is_of client one)) (manager.queues other))
-    c))
+    (parts_count at file total manager (λ one. one.client == client) (is_of client)
+    (rules.links_lost manager.server client).server c))
+
+pub leaves_count : (at file total client : ℕ) (file_ids tags : List ℕ) (manager : Manager)
+    → manager.server.present client ≡ true → Counts at file total (handling manager)
+    → Counts at file (waiting_under at (without (is_left client tags) (manager.queues file)))
+    (rules.leave manager client file_ids tags)
+unfolding rules.leave
+leaves_count at file total client file_ids tags manager up c =
+    rw (up) (passes_count at file _ (rules.left client file_ids tags (handling manager))
+    (parts_count at file total manager (is_named client file_ids) (is_left client tags) _ c))
+
+pub leaves_nothing : (client : ℕ) (file_ids tags : List ℕ) (manager : Manager) → manager.server.present client ≡ false
+    → rules.leave manager client file_ids tags ≡ handling manager
+unfolding rules.leave
+leaves_nothing client file_ids tags manager down = rw (down) refl
+
+-- breaks for what other keys are to give up answer none
+pub gives_up_count : (at file total : ℕ) (own : Option Key) (place : ℕ) (extent : Extent) (manager : Manager)
+    → Counts at file total (handling manager) → Counts at file total (rules.give_up manager own place extent)
+unfolding rules.give_up
+gives_up_count at file total own place extent manager c =
+    let after = others_broken manager.server own place extent in
+    let all = told_with at [] (ended_between manager.server after.server) (told_of 0 after.outs) in
+    let ends = ends_answer_none at manager.server after.server in
+    let none = others_answer_none at 0 manager.server own place extent in
+    passes_count at file total _ (counts_still at file total (handling manager) (gone_on 0 after
+    (rules.ends after.server (handling manager))) (omega (arith, all, ends, none)) (λ other. refl) c)
 
 pub cuts_nothing : (client : ℕ) (manager : Manager) → manager.server.present client ≡ false
     → rules.cut manager client ≡ handling manager
@@ -382,6 +418,18 @@ answers_come_once manager (Coming.Expires key) once free at =
     as_at_first at manager _ (once at) (expires_count at _ _ key manager (counts_at_first at manager (once at)))
 answers_come_once manager (Coming.Scavenges file_id) once free at =
     as_at_first at manager _ (once at) (scavenges_count at _ _ file_id manager (counts_at_first at manager (once at)))
+answers_come_once manager (Coming.GivesUp own place extent) once free at =
+    as_at_first at manager _ (once at) (gives_up_count at _ _ own place extent manager (counts_at_first at manager (once at)))
+answers_come_once manager (Coming.Leaves client file_ids tags) once free at =
+    either (manager.server.present client)
+    (λ up.
+    let file = (once at).file in
+    let fewer = counts_fewer (λ (one : Tagged). one.tag == at) (λ (one : Tagged). not (is_left client tags one))
+    (manager.queues file) in
+    let most = (once at).once in
+    at_most_once at _ _ _ (leaves_count at file _ client file_ids tags manager up (counts_at_first at manager (once at)))
+    (omega (arith, fewer, most)))
+    (λ down. subst (IsOnce at) (sym (leaves_nothing client file_ids tags manager down)) (once at))
 answers_come_once manager (Coming.Withdraws place client tag) once free at =
     either (list_any (is_under client tag) (manager.queues place))
     (λ some.

@@ -11,13 +11,14 @@ use Rattle.manager_model.specs.Answering.{cut_off, is_withdrawal, taken_back, wa
 use Rattle.manager_model.specs.Bare.{bare_request}
 use Rattle.manager_model.specs.Decisions.{Decision, told_of, told_of_out}
 use Rattle.manager_model.specs.Handling.{Handling, Manager, Pass, Tagged, at_server, ended_between, ends, gone_on, handling}
-use Rattle.manager_model.specs.Handling.{held_in}
+use Rattle.manager_model.specs.Handling.{held_in, is_left, left_behind}
+use Rattle.lease_laws.proofs.Words.{filter, is_named, others_broken, outlives_connection}
 use Rattle.manager_model.specs.Handling.{is_of, is_open, is_under, left_to_wait, lost, one_pass, pass_answered, tagged_of}
 use Rattle.manager_model.specs.Handling as rules
 use Rattle.manager_model.specs.Hosting.{Coming, HasFreeTag, managed}
 use Rattle.manager_model.proofs.answers.Calls.{acknowledges_count, counts_none, cuts_count, cuts_nothing, expires_count}
 use Rattle.manager_model.proofs.answers.Calls.{joins_count, none_under, receives_count, receives_nothing, scavenges_count}
-use Rattle.manager_model.proofs.answers.Calls.{withdraws_count, withdraws_nothing}
+use Rattle.manager_model.proofs.answers.Calls.{gives_up_count, leaves_count, leaves_nothing, withdraws_count, withdraws_nothing}
 use Rattle.manager_model.proofs.answers.Once.{Counts, counts_both, counts_fewer, counts_next, one_if}
 use Rattle.manager_model.proofs.passes.Alike.{any_passes}
 use Rattle.manager_model.proofs.passes.Enough.{InPass, in_pass}
@@ -58,6 +59,20 @@ opens_take_none at (one ∷ opens) = opens_take_none at opens
 ends_take_none : (at : ℕ) (before after : Server) → withdrawals at (ended_between before after) ≡ 0
 unfolding ended_between
 ends_take_none at before after = opens_take_none at (without (is_open after) before.opens)
+
+left_takes_none : (at : ℕ) (opens : List Open)
+    → withdrawals at (map (λ (one : Open). Decision.LeftBehind one.file_id) opens) ≡ 0
+left_takes_none at [] = refl
+left_takes_none at (one ∷ opens) = left_takes_none at opens
+
+parts_take_none : (at : ℕ) (test : Open → Bool) (before after : Server)
+    → withdrawals at (ended_between before after ++ left_behind test before) ≡ 0
+unfolding left_behind
+parts_take_none at test before after =
+    let both = counts_both (is_withdrawal at) (ended_between before after) (left_behind test before) in
+    let ends = ends_take_none at before after in
+    let left = left_takes_none at (filter (λ one. test one && one.connected && outlives_connection before one) before.opens) in
+    omega (arith, both, ends, left)
 
 -- ---- a call goes on
 
@@ -214,9 +229,20 @@ becomes_staying P at file after manager s = record {
   left = s.left;
 }
 
+-- opens end, or wait for their client, and some requests wait no longer
+parts_staying : (P : Tagged → Type 0) (at file : ℕ) (manager : Manager) (test : Open → Bool) (gone : Tagged → Bool)
+    (after : Server) → Stays P at file 0 (handling manager) → Stays P at file 0 (record {
+      manager = record { server = after; queues = λ other. without gone (manager.queues other) };
+      told = ended_between manager.server after ++ left_behind test manager.server;
+    })
+parts_staying P at file manager test gone after s = record {
+  told = parts_take_none at test manager.server after;
+  left = λ one there. s.left one (among_filter (λ (x : Tagged). not (gone x)) one (manager.queues file) there).0;
+}
+
 call_stays : (P : Tagged → Type 0) (at file : ℕ) (manager : Manager) (coming : Coming) → TakesNone coming
     → ComesWell P manager coming → Stays P at file 0 (handling manager) → Stays P at file 0 (managed manager coming)
-unfolding rules.join rules.receive rules.acknowledge rules.cut rules.expire rules.scavenge
+unfolding rules.join rules.receive rules.acknowledge rules.cut rules.expire rules.scavenge rules.give_up rules.leave
 call_stays P at file manager (Coming.Joins client) none own s = becomes_staying P at file _ manager s
 call_stays P at file manager (Coming.Asks client tag request) none own s = if_cases (Stays P at file 0)
     (manager.server.present client) (rules.arrived tag client (bare_request request) (handling manager)) (handling manager)
@@ -228,11 +254,16 @@ call_stays P at file manager (Coming.Acknowledges client given) none own s = if_
     (goes_staying P at file 0 0 (acknowledged client given (begun manager.server)) (handling manager) s)) (λ down. s)
 call_stays P at file manager (Coming.IsCut client) none own s = if_cases (Stays P at file 0)
     (manager.server.present client) (rules.all_passes (lost client (handling manager))) (handling manager)
-    (λ up. passes_stay P at file 0 (lost client (handling manager)) (record {
-      told = ends_take_none at manager.server (rules.links_lost manager.server client).server;
-      left = λ one there. s.left one
-          (among_filter (λ (x : Tagged). not (is_of client x)) one (manager.queues file) there).0;
-    })) (λ down. s)
+    (λ up. passes_stay P at file 0 (lost client (handling manager)) (parts_staying P at file manager
+    (λ one. one.client == client) (is_of client) (rules.links_lost manager.server client).server s)) (λ down. s)
+call_stays P at file manager (Coming.Leaves client file_ids tags) none own s = if_cases (Stays P at file 0)
+    (manager.server.present client) (rules.all_passes (rules.left client file_ids tags (handling manager))) (handling manager)
+    (λ up. passes_stay P at file 0 (rules.left client file_ids tags (handling manager)) (parts_staying P at file manager
+    (is_named client file_ids) (is_left client tags) _ s)) (λ down. s)
+call_stays P at file manager (Coming.GivesUp own place extent) none from s =
+    let after = others_broken manager.server own place extent in
+    passes_stay P at file 0 _ (goes_staying P at file 0 0 after (rules.ends after.server (handling manager))
+    (ends_staying P at file 0 after.server (handling manager) s))
 call_stays P at file manager (Coming.Expires key) none own s = if_cases (Stays P at file 0)
     (is_breaking (manager.server.leases key)) _ (handling manager)
     (λ breaking. passes_stay P at file 0 _ (becomes_staying P at file _ manager s)) (λ settled. s)
@@ -405,6 +436,24 @@ waiting_cut manager client file one w =
     (subst (Counts one.tag file 1) (sym (cuts_nothing client manager down)) w.counts) stays
     (let off : cut_off manager (Coming.IsCut client) one ≡ 0 = rw (down) refl in omega (arith, off)))
 
+-- its client leaves it, or other requests,
+waiting_left : (manager : Manager) (client : ℕ) (file_ids tags : List ℕ) (file : ℕ) (one : Tagged) → IsWaiting manager file one
+    → IsAccountedFor manager (Coming.Leaves client file_ids tags) file one
+waiting_left manager client file_ids tags file one w =
+    let coming = Coming.Leaves client file_ids tags in
+    let stays = call_stays (IsSame one) one.tag file manager coming tt tt (first_staying manager file one w) in
+    let queue = manager.queues file in
+    either (manager.server.present client)
+    (λ up. accounted manager coming file _ one (leaves_count one.tag file 1 client file_ids tags manager up w.counts) stays
+    (either (is_left client tags one)
+    (λ its. let none = left_none (is_left client tags) one queue w.most w.there its in
+    let off : cut_off manager coming one ≡ 1 = rw (up, its) refl in omega (arith, none, off))
+    (λ other. let one_left = left_one (is_left client tags) one queue w.most w.there other in
+    let off : cut_off manager coming one ≡ 0 = rw (up, other) refl in omega (arith, one_left, off))))
+    (λ down. accounted manager coming file 1 one
+    (subst (Counts one.tag file 1) (sym (leaves_nothing client file_ids tags manager down)) w.counts) stays
+    (let off : cut_off manager coming one ≡ 0 = rw (down) refl in omega (arith, off)))
+
 -- a request is withdrawn from this file,
 withdrawn_here : (manager : Manager) (client tag file : ℕ) (one : Tagged) → IsWaiting manager file one
     → list_any (is_under client tag) (manager.queues file) ≡ true
@@ -517,6 +566,12 @@ waiting_accounted manager (Coming.Expires key) file one w free = accounted manag
 waiting_accounted manager (Coming.Scavenges file_id) file one w free = accounted manager (Coming.Scavenges file_id) file 1 one
     (scavenges_count one.tag file 1 file_id manager w.counts)
     (call_stays (IsSame one) one.tag file manager (Coming.Scavenges file_id) tt tt (first_staying manager file one w)) refl
+waiting_accounted manager (Coming.GivesUp own place extent) file one w free =
+    accounted manager (Coming.GivesUp own place extent) file 1 one
+    (gives_up_count one.tag file 1 own place extent manager w.counts) (call_stays (IsSame one) one.tag file manager
+    (Coming.GivesUp own place extent) tt tt (first_staying manager file one w)) refl
+waiting_accounted manager (Coming.Leaves client file_ids tags) file one w free =
+    waiting_left manager client file_ids tags file one w
 waiting_accounted manager (Coming.Withdraws place client tag) file one w free =
     waiting_withdrawn manager place client tag file one w
 
@@ -550,6 +605,8 @@ comes_accounted manager (Coming.IsCut client) file one free to = absurd to
 comes_accounted manager (Coming.Expires key) file one free to = absurd to
 comes_accounted manager (Coming.Scavenges file_id) file one free to = absurd to
 comes_accounted manager (Coming.Withdraws place client tag) file one free to = absurd to
+comes_accounted manager (Coming.GivesUp own place extent) file one free to = absurd to
+comes_accounted manager (Coming.Leaves client file_ids tags) file one free to = absurd to
 
 pub none_is_dropped : NoneIsDropped
 none_is_dropped manager coming file one once free there = ⊎_elim

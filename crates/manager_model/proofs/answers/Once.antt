@@ -11,10 +11,11 @@ use Rattle.lease_laws.proofs.server.Lists.{either}
 use Rattle.lease_laws.proofs.server.cases.Ends.{IsLeft, any_end}
 use Rattle.lease_laws.proofs.server.cases.Findings.{finds_malformed, look_for_close, look_for_read, look_for_write}
 use Rattle.lease_laws.proofs.server.cases.Judgements.{any_judgement}
-use Rattle.lease_laws.proofs.server.cases.Tries.{any_rounds, any_try}
+use Rattle.lease_laws.proofs.server.cases.Tries.{HasTries, any_meeting, any_rounds, any_try}
+use Rattle.lease_laws.proofs.Words.{◌&&◌, Extent, Key, others_broken, others_wants, outlives_connection}
 use Rattle.manager_model.specs.Answering.{answers, is_answer, waiting_under}
 use Rattle.manager_model.specs.Decisions.{Decision, told_of, told_of_out}
-use Rattle.manager_model.specs.Handling.{Handling, ended_between, is_open}
+use Rattle.manager_model.specs.Handling.{Handling, ended_between, is_open, left_behind}
 
 abbrev pub one_if : Bool → ℕ
 one_if b = if b then 1 else 0
@@ -56,6 +57,20 @@ pub ends_answer_none : (tag : ℕ) (before after : Server) → answers tag (ende
 unfolding ended_between
 ends_answer_none tag before after = ends_answer tag (without (is_open after) before.opens)
 
+left_answer : (tag : ℕ) (opens : List Open) → answers tag (map (λ (one : Open). Decision.LeftBehind one.file_id) opens) ≡ 0
+left_answer tag [] = refl
+left_answer tag (one ∷ opens) = left_answer tag opens
+
+-- nor does it answer any that opens end, or wait for their client
+pub parts_answer_none : (tag : ℕ) (test : Open → Bool) (before after : Server)
+    → answers tag (ended_between before after ++ left_behind test before) ≡ 0
+unfolding left_behind
+parts_answer_none tag test before after =
+    let both = counts_both (is_answer tag) (ended_between before after) (left_behind test before) in
+    let ends = ends_answer_none tag before after in
+    let left = left_answer tag (filter (λ one. test one && one.connected && outlives_connection before one) before.opens) in
+    omega (arith, both, ends, left)
+
 -- a try answers nothing
 abbrev AnswersAlike : ℕ → ℕ → Progress → Progress → Type 0
 AnswersAlike at tag before after = answers at (told_of tag after.outs) ≡ answers at (told_of tag before.outs)
@@ -64,15 +79,24 @@ silent : (at tag : ℕ) (outs more : List Out) → answers at (told_of tag more)
     → answers at (told_of tag (outs ++ more)) ≡ answers at (told_of tag outs)
 silent at tag outs more none = let both = answers_more at tag outs more in omega (arith, both, none)
 
-pub tries_answer_none : (at tag client : ℕ) (request : FileRequest) (server : Server)
-    → answers at (told_of tag (tried client request (begun server)).progress.outs) ≡ 0
-tries_answer_none at tag client request server = any_try (AnswersAlike at tag) (record {
+tries_are_silent : (at tag : ℕ) → HasTries (AnswersAlike at tag)
+tries_are_silent at tag = record {
   same = λ p. refl;
   behind = λ before next after one more. more ∙ one;
   drop = λ key p. silent at tag p.outs [] refl;
   lower = λ key lowered p settled. silent at tag p.outs _ refl;
   begin = λ key lowered p settled. silent at tag p.outs _ refl;
-}) 3 client request (begun server)
+}
+
+pub tries_answer_none : (at tag client : ℕ) (request : FileRequest) (server : Server)
+    → answers at (told_of tag (tried client request (begun server)).progress.outs) ≡ 0
+tries_answer_none at tag client request server =
+    any_try (AnswersAlike at tag) (tries_are_silent at tag) 3 client request (begun server)
+
+pub others_answer_none : (at tag : ℕ) (server : Server) (own : Option Key) (file : ℕ) (extent : Extent)
+    → answers at (told_of tag (others_broken server own file extent).outs) ≡ 0
+others_answer_none at tag server own file extent = any_meeting (AnswersAlike at tag) (tries_are_silent at tag)
+    (others_wants server own file extent) (begun server)
 
 -- ---- a try that doesn't wait finds what it answers
 

@@ -8,15 +8,18 @@ use Rattle.lease_laws.proofs.Words.{joined}
 use Rattle.lease_laws.proofs.Words.{key_expired, list_any, not, opens_disconnected, opens_dropped, receive, refl, request_held}
 use Rattle.lease_laws.proofs.Words.{has_marked, held_left, scavenge, unmarked, withdraw}
 use Rattle.lease_laws.proofs.Words.{tried, Tried}
+use Rattle.lease_laws.proofs.Words.{Bool, Extent, Option, give_up, is_lost_of, is_named, leave, opens_parted, others_broken}
+use Rattle.lease_laws.proofs.Words.{others_wants, requests_left}
 use Rattle.lease_model.specs.server.Calls.{first_tried}
 use Rattle.lease_model.specs.server.Progress.{stepped}
 use Rattle.manager_model.specs.Bare.{bare, bare_held, bare_of, bare_progress, bare_request}
+use Rattle.manager_model.specs.Handling.{opens_left}
 use Rattle.manager_model.specs.Laws.{BytesDecideNothing}
 use Rattle.manager_model.proofs.bytes.Ends.{acknowledged_so, concluded_so}
 use Rattle.manager_model.proofs.bytes.Passes.{all_so}
 use Rattle.manager_model.proofs.bytes.Steps.{behind_so, choose_so, dropped_so, filter_map, hold_so, left_so, marked_map}
 use Rattle.manager_model.proofs.bytes.Steps.{refused_so, stepped_so, unmarked_map}
-use Rattle.manager_model.proofs.bytes.Tries.{as_held_so, asked_so, tried_so}
+use Rattle.manager_model.proofs.bytes.Tries.{as_held_so, asked_so, tried_so, wants_so}
 
 first_so : (file : ℕ) (one : Held) (progress : Progress) (outcome : Outcome)
     → after_first_try file (bare_held one) (bare_progress progress) outcome
@@ -86,8 +89,29 @@ links_so server client =
     ∙ ap (client_forgotten client) (disconnected_so client (opens_dropped (is_lost server client) (begun server)))
     ∙ forgotten_so client (opens_disconnected client (opens_dropped (is_lost server client) (begun server)))
 
+-- what other keys are to give up
+pub others_so : (server : Server) (own : Option Key) (file : ℕ) (extent : Extent)
+    → others_broken (bare server) own file extent ≡ bare_progress (others_broken server own file extent)
+others_so server own file Extent.Handles = wants_so (others_wants server own file Extent.Handles) (begun server)
+others_so server own file Extent.All = wants_so (others_wants server own file Extent.All) (begun server)
+
+-- opens and requests that are left
+marked_so : (marks : ℕ → List Bool) (progress : Progress)
+    → requests_left marks (bare_progress progress) ≡ bare_progress (requests_left marks progress)
+marked_so marks progress =
+    ap (λ (held : ℕ → List Held). stepped (bare_progress progress) (record (bare progress.server) { held = held }) [])
+    (fun_ext (λ file. unmarked_map (marks file) bare_held (progress.server.held file)))
+    ∙ stepped_so progress (requests_left marks progress).server []
+
+opens_left_so : (server : Server) (client : ℕ) (file_ids : List ℕ)
+    → opens_left (bare server) client file_ids ≡ bare_progress (opens_left server client file_ids)
+opens_left_so server client file_ids =
+    let lost = is_lost_of server (is_named client file_ids) in
+    ap (opens_parted (is_named client file_ids)) (dropped_so lost (begun server))
+    ∙ stepped_so (opens_dropped lost (begun server)) (opens_left server client file_ids).server []
+
 pub bytes_decide_nothing : BytesDecideNothing
-unfolding join receive cut expire scavenge withdraw
+unfolding join receive cut expire scavenge withdraw give_up leave
 bytes_decide_nothing server (Call.Join client) = choose_so bare_progress (server.present client) _ _ _ _ refl
     (stepped_so (begun server) (joined client (begun server)).server [])
 bytes_decide_nothing server (Call.Receive client request) = choose_so bare_progress (server.present client) _ _ _ _
@@ -110,3 +134,10 @@ bytes_decide_nothing server (Call.Withdraw file marks) =
     (ap (λ queue. all_passes (held_left file queue (begun (bare server)))) (unmarked_map marks bare_held (server.held file))
     ∙ ap all_passes (left_so file (unmarked marks (server.held file)) (begun server)) ∙ all_so left)
     ∙ choose_so bare_progress (has_marked marks (server.held file)) _ _ _ _ refl refl
+bytes_decide_nothing server (Call.GiveUp own file extent) =
+    ap all_passes (others_so server own file extent) ∙ all_so (others_broken server own file extent)
+bytes_decide_nothing server (Call.Leave client file_ids marks) =
+    let left = opens_left server client file_ids in
+    choose_so bare_progress (server.present client) _ _ _ _
+    (ap all_passes (ap (requests_left marks) (opens_left_so server client file_ids) ∙ marked_so marks left)
+    ∙ all_so (requests_left marks left)) refl

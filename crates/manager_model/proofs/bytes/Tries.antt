@@ -82,7 +82,7 @@ met_so want progress =
     ap (lease_broken want.key want.lowered) (dropped_so (is_left_open want.key) progress)
     ∙ broken_so want.key want.lowered (opens_dropped (is_left_open want.key) progress)
 
-wants_so : (wants : List Want) (progress : Progress)
+pub wants_so : (wants : List Want) (progress : Progress)
     → wants_met wants (bare_progress progress) ≡ bare_progress (wants_met wants progress)
 unfolding wants_met
 wants_so [] progress = refl

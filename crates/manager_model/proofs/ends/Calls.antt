@@ -10,7 +10,8 @@ use Rattle.manager_model.specs.Bare.{bare_request}
 use Rattle.manager_model.specs.Decisions.{Decision, told_of}
 use Rattle.manager_model.specs.Ending.{EndsAreTold, IsToldOf, Waited, WasAsked}
 use Rattle.manager_model.specs.Handling.{Handling, Manager, Pass, Tagged, ended_between, ends, gone_on, handling, is_of}
-use Rattle.manager_model.specs.Handling.{is_open, is_under}
+use Rattle.manager_model.specs.Handling.{is_left, is_open, is_under, left_behind}
+use Rattle.lease_laws.proofs.Words.{Bool, Extent, is_named, others_broken}
 use Rattle.manager_model.specs.Handling.{held_in, left_to_wait, lost, one_pass, tagged_of}
 use Rattle.manager_model.specs.Handling as rules
 use Rattle.manager_model.specs.Hosting.{Coming, managed}
@@ -108,6 +109,20 @@ comes_to : (Asked : Tagged → Type 0) (manager : Manager) (after : Server) (que
 comes_to Asked manager after queues asked = record {
   asked = asked;
   told = ends_told Asked manager.server manager.server after [] (begins_told Asked manager.server);
+}
+
+-- and which opens wait for their client
+parts_tell : (Asked : Tagged → Type 0) (manager : Manager) (test : Open → Bool) (after : Server) (queues : ℕ → List Tagged)
+    → ((file : ℕ) (one : Tagged) → Among one (queues file) → Asked one)
+    → Tells Asked manager.server (record {
+      manager = record { server = after; queues = queues };
+      told = ended_between manager.server after ++ left_behind test manager.server;
+    })
+parts_tell Asked manager test after queues asked = record {
+  asked = asked;
+  told = λ other there. ⊎_elim (λ stays. inl stays)
+      (λ told. inr (told_more Asked (ended_between manager.server after) (left_behind test manager.server) other.file_id told))
+      ((comes_to Asked manager after queues asked).told other there);
 }
 
 -- ---- requests
@@ -219,9 +234,34 @@ cuts_tell : (Asked : Tagged → Type 0) (manager : Manager) (client : ℕ)
 unfolding rules.cut
 cuts_tell Asked manager client t = if_cases (Tells Asked manager.server) (manager.server.present client)
     (rules.all_passes (lost client (handling manager))) (handling manager)
-    (λ up. passes_tell Asked manager.server _ (comes_to Asked manager _ _ (λ file one there. t.asked file one
+    (λ up. passes_tell Asked manager.server _ (parts_tell Asked manager (λ one. one.client == client)
+    (rules.links_lost manager.server client).server (λ file. without (is_of client) (manager.queues file))
+    (λ file one there. t.asked file one
     (among_filter (λ (one : Tagged). not (is_of client one)) one (manager.queues file) there).0)))
     (λ down. t)
+
+leaves_tell : (Asked : Tagged → Type 0) (manager : Manager) (client : ℕ) (file_ids tags : List ℕ)
+    → Tells Asked manager.server (handling manager) → Tells Asked manager.server (rules.leave manager client file_ids tags)
+unfolding rules.leave
+leaves_tell Asked manager client file_ids tags t = if_cases (Tells Asked manager.server) (manager.server.present client)
+    (rules.all_passes (rules.left client file_ids tags (handling manager))) (handling manager)
+    (λ up. passes_tell Asked manager.server (rules.left client file_ids tags (handling manager)) (parts_tell Asked manager
+    (is_named client file_ids) _ (λ file. without (is_left client tags) (manager.queues file))
+    (λ file one there. t.asked file one
+    (among_filter (λ (one : Tagged). not (is_left client tags one)) one (manager.queues file) there).0)))
+    (λ down. t)
+
+gives_up_tell : (Asked : Tagged → Type 0) (manager : Manager) (own : Option Key) (file : ℕ) (extent : Extent)
+    → Tells Asked manager.server (handling manager) → Tells Asked manager.server (rules.give_up manager own file extent)
+unfolding rules.give_up
+gives_up_tell Asked manager own file extent t =
+    let after = others_broken manager.server own file extent in
+    let ended = ends_told Asked manager.server manager.server after.server [] t.told in
+    passes_tell Asked manager.server _ (record {
+      asked = t.asked;
+      told = λ other there. ⊎_elim (λ stays. inl stays)
+          (λ told. inr (told_more Asked _ (told_of 0 after.outs) other.file_id told)) (ended other there);
+    })
 
 expires_tell : (Asked : Tagged → Type 0) (manager : Manager) (key : Key)
     → Tells Asked manager.server (handling manager) → Tells Asked manager.server (rules.expire manager key)
@@ -267,6 +307,10 @@ any_tells manager (Coming.Acknowledges client given) =
 any_tells manager (Coming.IsCut client) = cuts_tell _ manager client (begins_tell _ manager (λ one w. inl w))
 any_tells manager (Coming.Expires key) = expires_tell _ manager key (begins_tell _ manager (λ one w. inl w))
 any_tells manager (Coming.Scavenges file_id) = scavenges_tell _ manager file_id (begins_tell _ manager (λ one w. inl w))
+any_tells manager (Coming.GivesUp own file extent) =
+    gives_up_tell _ manager own file extent (begins_tell _ manager (λ one w. inl w))
+any_tells manager (Coming.Leaves client file_ids tags) =
+    leaves_tell _ manager client file_ids tags (begins_tell _ manager (λ one w. inl w))
 any_tells manager (Coming.Withdraws file client tag) =
     withdraws_tell _ manager file client tag (begins_tell _ manager (λ one w. inl w))
 

@@ -11,12 +11,13 @@ use Rattle.lease_laws.proofs.server.Lists.{among_append, among_behind, among_fil
 use Rattle.lease_laws.proofs.server.Lists.{either, has_any}
 use Rattle.lease_laws.proofs.server.Lists.{if_cases, not_parts, not_true, none_has}
 use Rattle.lease_laws.proofs.server.cases.Ends.{IsFoundOpen, any_end}
-use Rattle.lease_laws.proofs.server.cases.Tries.{any_try}
+use Rattle.lease_laws.proofs.server.cases.Tries.{HasTries, any_meeting, any_try}
+use Rattle.lease_laws.proofs.Words.{Extent, others_broken, others_wants, outlives_connection}
 use Rattle.manager_model.specs.Bare.{bare_request}
 use Rattle.manager_model.specs.Decisions.{Decision, told_of, told_of_out}
 use Rattle.manager_model.specs.Ending.{closes_of, ends_of, is_close, is_closed, is_end, opens_of}
 use Rattle.manager_model.specs.Handling.{Handling, Manager, Pass, Tagged, ended_between, ends, gone_on, handling, held_in}
-use Rattle.manager_model.specs.Handling.{is_of, is_open, is_under, left_to_wait, lost, one_pass, tagged_of}
+use Rattle.manager_model.specs.Handling.{is_of, is_open, is_under, left_behind, left_to_wait, lost, one_pass, tagged_of}
 use Rattle.manager_model.specs.Handling as rules
 use Rattle.manager_model.proofs.answers.Dropped.{among_others}
 use Rattle.manager_model.proofs.ends.Calls.{asked_put}
@@ -171,6 +172,23 @@ closes_silent : (requests : ℕ → FileRequest) (n tag : ℕ) (outs more : List
     → closes_of requests n (told_of tag (outs ++ more)) ≡ closes_of requests n (told_of tag outs)
 closes_silent requests n tag outs more none = let both = closes_more requests n tag outs more in omega (arith, both, none)
 
+-- nothing of this is told by opens that wait for their client
+left_end_none : (n : ℕ) (opens : List Open) → ends_of n (map (λ (one : Open). Decision.LeftBehind one.file_id) opens) ≡ 0
+left_end_none n [] = refl
+left_end_none n (one ∷ opens) = left_end_none n opens
+
+left_close_none : (requests : ℕ → FileRequest) (n : ℕ) (opens : List Open)
+    → closes_of requests n (map (λ (one : Open). Decision.LeftBehind one.file_id) opens) ≡ 0
+left_close_none requests n [] = refl
+left_close_none requests n (one ∷ opens) = left_close_none requests n opens
+
+pub left_tells_none : (requests : ℕ → FileRequest) (n : ℕ) (test : Open → Bool) (server : Server)
+    → (ends_of n (left_behind test server) ≡ 0) × (closes_of requests n (left_behind test server) ≡ 0)
+unfolding left_behind
+left_tells_none requests n test server =
+    let opens = filter (λ one. test one && one.connected && outlives_connection server one) server.opens in
+    (left_end_none n opens, left_close_none requests n opens)
+
 -- ---- a try: fewer opens are there, and none is closed; those that are connected stay
 
 -- each open of this number is connected
@@ -195,9 +213,8 @@ drop_keeps n key server up some =
     stays : (a b : Bool) → b ≡ true → not (a && not b) ≡ true
     stays a b e = grind arith
 
-pub tries_have : (requests : ℕ → FileRequest) (n tag client : ℕ) (request : FileRequest) (server : Server)
-    → HasTried requests n tag (begun server) (tried client request (begun server)).progress
-tries_have requests n tag client request server = any_try (HasTried requests n tag) (record {
+tries_are_had : (requests : ℕ → FileRequest) (n tag : ℕ) → HasTries (HasTried requests n tag)
+tries_are_had requests n tag = record {
   same = λ p. record { fewer = omega arith; closes = refl; last = refl; up = λ up. up; stays = λ up some. some };
   behind = λ before next after one more. record {
     fewer = let a = one.fewer in let b = more.fewer in omega (arith, a, b);
@@ -227,7 +244,17 @@ tries_have requests n tag client request server = any_try (HasTried requests n t
     up = λ up. up;
     stays = λ up some. some;
   };
-}) 3 client request (begun server)
+}
+
+pub tries_have : (requests : ℕ → FileRequest) (n tag client : ℕ) (request : FileRequest) (server : Server)
+    → HasTried requests n tag (begun server) (tried client request (begun server)).progress
+tries_have requests n tag client request server =
+    any_try (HasTried requests n tag) (tries_are_had requests n tag) 3 client request (begun server)
+
+pub others_have : (requests : ℕ → FileRequest) (n tag : ℕ) (server : Server) (own : Option Key) (file : ℕ) (extent : Extent)
+    → HasTried requests n tag (begun server) (others_broken server own file extent)
+others_have requests n tag server own file extent = any_meeting (HasTried requests n tag) (tries_are_had requests n tag)
+    (others_wants server own file extent) (begun server)
 
 -- ---- a request is answered: what it closes was there, and is told to be closed
 

@@ -1,7 +1,7 @@
 -- Each call tells once that an open ended.
 use Rattle.std.specs.List.{count_by}
 use Rattle.lease_laws.proofs.Words.{◌++◌, ◌<◌, ◌==◌, ◌∙◌, ◌∷◌, ◌≡◌, ◌≤◌, Among, FileRequest, IsSound, List, Open, Outcome}
-use Rattle.lease_laws.proofs.Words.{Progress, Result, Server, Status, ℕ, [], acknowledged, ap, arith, begun, disconnected}
+use Rattle.lease_laws.proofs.Words.{Progress, Result, Server, Status, ℕ, [], acknowledged, ap, arith, begun}
 use Rattle.lease_laws.proofs.Words.{file_asked}
 use Rattle.lease_laws.proofs.Words.{has_key, inl, inr, is_behind, is_breaking, is_left_behind, is_lost, join, joined, key_expired}
 use Rattle.lease_laws.proofs.Words.{list_any, not, opens_dropped, refl, refused, subst, sym, true, without, Err, Ok}
@@ -13,14 +13,15 @@ use Rattle.manager_model.specs.Bare.{bare_request}
 use Rattle.manager_model.specs.Decisions.{Decision, told_of}
 use Rattle.manager_model.specs.Ending.{EndsAreExact, is_closed, is_end, opens_of}
 use Rattle.manager_model.specs.Handling.{Handling, Manager, Tagged, ended_between, gone_on, handling, is_of, is_under}
-use Rattle.manager_model.specs.Handling.{left_to_wait}
+use Rattle.manager_model.specs.Handling.{is_left, left_behind, left_to_wait}
+use Rattle.lease_laws.proofs.Words.{is_lost_of, is_named, map, others_broken, parted}
 use Rattle.manager_model.specs.Handling.{lost, tagged_of}
 use Rattle.manager_model.specs.Handling as rules
 use Rattle.manager_model.specs.Hosting.{AreAsked, Coming, HasFreeTag, asked_by, managed}
 use Rattle.manager_model.proofs.answers.Once.{counts_both, counts_fewer, counts_next}
 use Rattle.manager_model.proofs.ends.Calls.{asked_put, passed_more}
 use Rattle.manager_model.proofs.ends.Exact.{Exact, IsBehind, counted_once, counts_mapped, ended_not, ended_so}
-use Rattle.manager_model.proofs.ends.Exact.{ends_close_none, goes_exactly, outs_end_none, passes_exactly, refusal_closes_none}
+use Rattle.manager_model.proofs.ends.Exact.{left_tells_none, others_have, ends_close_none, goes_exactly, outs_end_none, passes_exactly, refusal_closes_none}
 use Rattle.manager_model.proofs.ends.Exact.{tried_between, waits_behind_try, ended_behind}
 use Rattle.manager_model.proofs.hosts.Calls.{asked_more}
 use Rattle.manager_model.proofs.passes.Tables.{put_here}
@@ -51,6 +52,8 @@ asked_after requests manager (Coming.IsCut client) asked free file = asked file
 asked_after requests manager (Coming.Expires key) asked free file = asked file
 asked_after requests manager (Coming.Scavenges file_id) asked free file = asked file
 asked_after requests manager (Coming.Withdraws place client tag) asked free file = asked file
+asked_after requests manager (Coming.GivesUp own place extent) asked free file = asked file
+asked_after requests manager (Coming.Leaves client file_ids tags) asked free file = asked file
 
 -- a number that no open has yet
 not_there : (n : ℕ) (server : Server) (one : Open) → IsSound server → server.last_id < n → Among one server.opens
@@ -103,26 +106,49 @@ drops_exactly requests n manager test after sound asked opens last =
     last (λ one there. (sound.numbered one (among_filter (λ (o : Open). not (test o)) one manager.server.opens
     (subst (Among one) opens there)).0).1)
 
--- a client is lost
-lost_exactly : (requests : ℕ → FileRequest) (n : ℕ) (manager : Manager) (client : ℕ) → IsSound manager.server
-    → AllAsked requests manager.queues → Exact requests n manager.server (lost client (handling manager))
-lost_exactly requests n manager client sound asked =
-    let gone = is_lost manager.server client in
-    let left = without gone manager.server.opens in
-    comes_exactly requests n manager (rules.links_lost manager.server client).server
-    (λ file. without (is_of client) (manager.queues file)) sound
-    (λ file one there. asked file one (among_filter (λ (o : Tagged). not (is_of client o)) one (manager.queues file) there).0)
-    (let fewer = counts_fewer (λ (o : Open). o.file_id == n) (λ (o : Open). not (gone o)) manager.server.opens in
-    let same = counts_mapped (λ (o : Open). o.file_id == n) (disconnected client) left
-    (λ one. ap (λ m. m == n) (same_number one)) in omega (arith, fewer, same)) refl
+-- it is told also which opens wait for their client
+left_exactly : (requests : ℕ → FileRequest) (n : ℕ) (start : Server) (test : Open → Bool) (now : Handling)
+    → Exact requests n start now → Exact requests n start (record {
+      manager = now.manager;
+      told = now.told ++ left_behind test start;
+    })
+left_exactly requests n start test now e =
+    let none = left_tells_none requests n test start in
+    let no_end = none.0 in
+    let no_close = none.1 in
+    let ends = counts_both (is_end n) now.told (left_behind test start) in
+    let closes = counts_both (is_closed requests n) now.told (left_behind test start) in record {
+      asked = e.asked;
+      low = e.low;
+      all = λ less. let was = e.all less in omega (arith, was, ends, closes, no_end, no_close);
+      fresh = λ later. let was = e.fresh later in let before = was.0 in (omega (arith, before, ends, no_end), was.1);
+    }
+
+-- some opens are dropped, others disconnected, and some requests wait no longer
+parts_exactly : (requests : ℕ → FileRequest) (n : ℕ) (manager : Manager) (lost test : Open → Bool) (gone : Tagged → Bool)
+    (after : Server) → IsSound manager.server → AllAsked requests manager.queues
+    → after.opens ≡ map (parted test) (without lost manager.server.opens) → after.last_id ≡ manager.server.last_id
+    → Exact requests n manager.server (record {
+      manager = record { server = after; queues = λ file. without gone (manager.queues file) };
+      told = ended_between manager.server after ++ left_behind test manager.server;
+    })
+parts_exactly requests n manager lost test gone after sound asked opens last =
+    let left = without lost manager.server.opens in
+    left_exactly requests n manager.server test _
+    (comes_exactly requests n manager after (λ file. without gone (manager.queues file)) sound
+    (λ file one there. asked file one (among_filter (λ (o : Tagged). not (gone o)) one (manager.queues file) there).0)
+    (let fewer = counts_fewer (λ (o : Open). o.file_id == n) (λ (o : Open). not (lost o)) manager.server.opens in
+    let same = counts_mapped (λ (o : Open). o.file_id == n) (parted test) left (λ one. ap (λ m. m == n) (same_number one)) in
+    subst (λ (l : List Open). count_by (λ (o : Open). o.file_id == n) l ≤ opens_of n manager.server) (sym opens)
+    (omega (arith, fewer, same))) last
     (λ one there.
-    let was = among_map (disconnected client) one left there in
-    let old = among_filter (λ (o : Open). not (gone o)) was.0 manager.server.opens was.1 in
+    let was = among_map (parted test) one left (subst (Among one) opens there) in
+    let old = among_filter (λ (o : Open). not (lost o)) was.0 manager.server.opens was.1 in
     subst (λ m. m ≤ manager.server.last_id) (sym (ap (λ (o : Open). o.file_id) was.2 ∙ same_number was.0))
-    (sound.numbered was.0 old.0).1)
+    (sound.numbered was.0 old.0).1))
   where
-    same_number : (one : Open) → (disconnected client one).file_id ≡ one.file_id
-    same_number one = if_cases (λ (o : Open). o.file_id ≡ one.file_id) (one.client == client)
+    same_number : (one : Open) → (parted test one).file_id ≡ one.file_id
+    same_number one = if_cases (λ (o : Open). o.file_id ≡ one.file_id) (test one)
         (record one { connected = false }) one (λ its. refl) (λ other. refl)
 
 -- ---- requests
@@ -215,7 +241,8 @@ IsAskedBy requests coming = ⊤
 
 any_exactly : (requests : ℕ → FileRequest) (n : ℕ) (manager : Manager) (coming : Coming) → IsSound manager.server
     → AllAsked requests manager.queues → IsAskedBy requests coming → Exact requests n manager.server (managed manager coming)
-unfolding rules.join rules.receive rules.acknowledge rules.cut rules.expire rules.scavenge rules.withdraw join IsAskedBy
+unfolding rules.join rules.receive rules.acknowledge rules.cut rules.expire rules.scavenge rules.withdraw rules.give_up rules.leave
+    join IsAskedBy
 any_exactly requests n manager (Coming.Joins client) sound asked own =
     if_cases (λ (p : Progress). Exact requests n manager.server (rules.at_server p.server (handling manager)))
     (manager.server.present client) (begun manager.server) (joined client (begun manager.server))
@@ -246,7 +273,26 @@ any_exactly requests n manager (Coming.IsCut client) sound asked own =
     if_cases (Exact requests n manager.server) (manager.server.present client)
     (rules.all_passes (lost client (handling manager))) (handling manager)
     (λ up. passes_exactly requests n manager.server (lost client (handling manager)) most
-    (lost_exactly requests n manager client sound asked)) (λ down. begins_exactly requests n manager sound asked)
+    (parts_exactly requests n manager (is_lost manager.server client) (λ one. one.client == client) (is_of client)
+    (rules.links_lost manager.server client).server sound asked refl refl))
+    (λ down. begins_exactly requests n manager sound asked)
+any_exactly requests n manager (Coming.Leaves client file_ids tags) sound asked own =
+    let most = counted_once n manager.server.opens sound.in_order in
+    if_cases (Exact requests n manager.server) (manager.server.present client)
+    (rules.all_passes (rules.left client file_ids tags (handling manager))) (handling manager)
+    (λ up. passes_exactly requests n manager.server (rules.left client file_ids tags (handling manager)) most
+    (parts_exactly requests n manager (is_lost_of manager.server (is_named client file_ids)) (is_named client file_ids)
+    (is_left client tags) _ sound asked refl refl))
+    (λ down. begins_exactly requests n manager sound asked)
+any_exactly requests n manager (Coming.GivesUp own place extent) sound asked from =
+    let most = counted_once n manager.server.opens sound.in_order in
+    let after = others_broken manager.server own place extent in
+    let t = others_have requests n 0 manager.server own place extent in
+    let none = t.closes in
+    passes_exactly requests n manager.server _ most (goes_exactly requests n 0 manager.server after.server after
+    (handling manager) most (record { fewer = t.fewer; last = t.last; up = t.up; stays = t.stays })
+    (record { counts = λ less few. omega (arith, none); last = omega arith; up = λ up. up })
+    (begins_exactly requests n manager sound asked))
 any_exactly requests n manager (Coming.Expires key) sound asked own =
     let most = counted_once n manager.server.opens sound.in_order in
     if_cases (Exact requests n manager.server) (is_breaking (manager.server.leases key)) _ (handling manager)
@@ -285,6 +331,8 @@ asked_now requests (Coming.IsCut client) = tt
 asked_now requests (Coming.Expires key) = tt
 asked_now requests (Coming.Scavenges file_id) = tt
 asked_now requests (Coming.Withdraws place client tag) = tt
+asked_now requests (Coming.GivesUp own place extent) = tt
+asked_now requests (Coming.Leaves client file_ids tags) = tt
 
 pub ends_are_exact : EndsAreExact
 ends_are_exact requests manager coming n sound asked free =

@@ -4,38 +4,41 @@ use Rattle.lease_laws.proofs.Words.{Option}
 use Rattle.lease_laws.proofs.Words.{List, Ok, Open, Outcome, Progress, Request}
 use Rattle.lease_laws.proofs.Words.{Result, Server, Status, Tried, ℕ, [], acknowledged, after_first_try, ap, append-nil}
 use Rattle.lease_laws.proofs.Words.{ap₂, arrived, arrived_before}
-use Rattle.lease_laws.proofs.Words.{as_held, begun, called, concluded, cut, disconnected, expire, false, file_asked}
+use Rattle.lease_laws.proofs.Words.{as_held, begun, called, concluded, cut, expire, false, file_asked}
 use Rattle.lease_laws.proofs.Words.{file_request_arrived, has_key}
-use Rattle.lease_laws.proofs.Words.{if◌then◌else◌, inl, inr, is_behind, is_breaking, is_left_behind, is_lost, join, joined}
+use Rattle.lease_laws.proofs.Words.{if◌then◌else◌, inl, inr, is_behind, is_breaking, is_left_behind, join, joined}
 use Rattle.lease_laws.proofs.Words.{key_expired, list_any, map, map-append, not}
 use Rattle.lease_laws.proofs.Words.{opens_dropped, put, receive, refl, refused, request_held, scavenge, subst, sym, tried, true}
 use Rattle.lease_laws.proofs.Words.{without}
 use Rattle.lease_laws.proofs.Words.{has_marked, held_left, held_of, lane_of, unmarked, withdraw}
 use Rattle.lease_laws.proofs.server.Arrivals.{acknowledged-held}
-use Rattle.lease_laws.proofs.server.Held.{concluded-held, tried_for-held}
+use Rattle.lease_laws.proofs.Words.{Extent, fun_ext, give_up, is_lost_of, is_named, leave, opens_parted, others_broken, others_wants}
+use Rattle.lease_laws.proofs.Words.{parted, requests_left}
+use Rattle.lease_laws.proofs.server.Held.{SameHeld, concluded-held, tried_for-held, tries_hold}
+use Rattle.lease_laws.proofs.server.cases.Tries.{any_meeting}
 use Rattle.lease_laws.proofs.server.Lists.{among_map, if_cases}
 use Rattle.lease_model.specs.server.Calls.{first_tried}
 use Rattle.manager_model.specs.Bare.{bare, bare_held, bare_progress, bare_request}
 use Rattle.manager_model.specs.Decisions.{Decision}
 use Rattle.manager_model.specs.Handling.{Handling, Manager, Tagged, at_server, ends, gone_on, handling, is_of, is_under}
-use Rattle.manager_model.specs.Handling.{left_to_wait, lost, tagged_of}
+use Rattle.manager_model.specs.Handling.{ended_between, is_left, left_behind, left_to_wait, lost, opens_left, parts_left, tagged_of}
 use Rattle.manager_model.specs.Handling as rules
 use Rattle.manager_model.specs.Hosting.{AreAsked, AreServer, Coming, HasFreeTag, Host, Hosted, IsHostOf, asked_by, call_of}
-use Rattle.manager_model.specs.Hosting.{filled, hosted, managed}
+use Rattle.manager_model.specs.Hosting.{does_all, filled, hosted, managed}
 use Rattle.manager_model.specs.Hosting.{HaveFreeTags, calls_along, fresh_manager, fresh_server, given_along, hosted_along}
 use Rattle.lease_laws.proofs.Words.{new_server_under}
 use Rattle.manager_model.specs.Laws.{HostsAreServers, RunsOfHosts}
-use Rattle.manager_model.proofs.bytes.Calls.{bytes_decide_nothing, expired_so, links_so}
+use Rattle.manager_model.proofs.bytes.Calls.{bytes_decide_nothing, expired_so, links_so, others_so}
 use Rattle.manager_model.proofs.bytes.Ends.{acknowledged_so, concluded_so}
 use Rattle.manager_model.proofs.bytes.Steps.{behind_so, dropped_so, filter_map, hold_so, left_so, marked_map, marks_find}
 use Rattle.manager_model.proofs.bytes.Steps.{marks_leave, refused_so, unmarked_map}
 use Rattle.manager_model.proofs.bytes.Tries.{as_held_so, asked_so, lane_so, tried_so}
 use Rattle.manager_model.proofs.hosts.Answers.{acknowledged_faithfully, ends_faithfully, refused_faithfully}
 use Rattle.manager_model.proofs.hosts.Faithful.{does_none, does_one, does_then, faithful_then, host_of_fewer, same_host}
-use Rattle.manager_model.proofs.hosts.Faithful.{tries_faithfully}
+use Rattle.manager_model.proofs.hosts.Faithful.{others_faithfully, tries_faithfully}
 use Rattle.manager_model.proofs.hosts.Passes.{all_serve}
 use Rattle.manager_model.proofs.hosts.Serving.{Serves, asked_both, asked_put, ends_nothing, ends_serving, goes_serving}
-use Rattle.manager_model.proofs.hosts.Serving.{held_bare, queues_put}
+use Rattle.manager_model.proofs.hosts.Serving.{held_bare, left_nothing, queues_put}
 use Rattle.manager_model.proofs.passes.Tables.{put_here}
 
 -- ---- a call begins
@@ -332,47 +335,64 @@ scavenges requests manager host server file_id are =
     (host_of_fewer (is_left_behind file_id) (begun server) host are.hosts)))
     (λ none. begins_serving requests manager host server are)
 
--- a client that is lost
-host_of_lost : (host : Host) (server : Server) (client : ℕ) → IsHostOf host server
-    → IsHostOf host (rules.links_lost server client).server
-host_of_lost host server client is =
-    let fewer = host_of_fewer (is_lost server client) (begun server) host is in
-    let left = opens_dropped (is_lost server client) (begun server) in record {
+-- opens are disconnected, once those that end were dropped
+host_of_parted : (host : Host) (server : Server) (test : Open → Bool) → IsHostOf host server
+    → IsHostOf host (opens_parted test (opens_dropped (is_lost_of server test) (begun server))).server
+host_of_parted host server test is =
+    let fewer = host_of_fewer (is_lost_of server test) (begun server) host is in
+    let left = opens_dropped (is_lost_of server test) (begun server) in record {
       contents = fewer.contents;
       handles = λ one among.
-          let was = among_map (disconnected client) one left.server.opens among in
+          let was = among_map (parted test) one left.server.opens among in
           let same = same_open was.0 in
           ap (λ (o : Open). host.handles o.file_id) was.2 ∙ ap host.handles same.0 ∙ fewer.handles was.0 was.1 ∙ sym same.1
           ∙ sym (ap (λ (o : Open). o.file) was.2);
       numbered = λ one among.
-          let was = among_map (disconnected client) one left.server.opens among in
+          let was = among_map (parted test) one left.server.opens among in
           let same = same_open was.0 in
           subst (λ n. n ≤ server.last_id) (sym (ap (λ (o : Open). o.file_id) was.2 ∙ same.0)) (fewer.numbered was.0 was.1);
     }
   where
-    same_open : (one : Open) → ((disconnected client one).file_id ≡ one.file_id) × ((disconnected client one).file ≡ one.file)
-    same_open one = if_cases (λ (o : Open). (o.file_id ≡ one.file_id) × (o.file ≡ one.file)) (one.client == client)
+    same_open : (one : Open) → ((parted test one).file_id ≡ one.file_id) × ((parted test one).file ≡ one.file)
+    same_open one = if_cases (λ (o : Open). (o.file_id ≡ one.file_id) × (o.file ≡ one.file)) (test one)
         (record one { connected = false }) one (λ e. (refl, refl)) (λ e. (refl, refl))
 
-asked_of_others : (requests : ℕ → FileRequest) (client : ℕ) (queue : List Tagged) → AreAsked requests queue
-    → AreAsked requests (without (is_of client) queue)
-asked_of_others requests client [] a = tt
-asked_of_others requests client (one ∷ queue) a = if_cases (AreAsked requests) (not (is_of client one))
-    (one ∷ without (is_of client) queue) (without (is_of client) queue)
-    (λ other. (a.0, asked_of_others requests client queue a.1)) (λ its. asked_of_others requests client queue a.1)
+-- a client that is lost
+host_of_lost : (host : Host) (server : Server) (client : ℕ) → IsHostOf host server
+    → IsHostOf host (rules.links_lost server client).server
+host_of_lost host server client is =
+    let test : Open → Bool = λ one. one.client == client in
+    same_host host (opens_parted test (opens_dropped (is_lost_of server test) (begun server))).server
+    (rules.links_lost server client).server (host_of_parted host server test is) refl refl refl
+
+asked_without : (requests : ℕ → FileRequest) (test : Tagged → Bool) (queue : List Tagged) → AreAsked requests queue
+    → AreAsked requests (without test queue)
+asked_without requests test [] a = tt
+asked_without requests test (one ∷ queue) a = if_cases (AreAsked requests) (not (test one))
+    (one ∷ without test queue) (without test queue)
+    (λ other. (a.0, asked_without requests test queue a.1)) (λ its. asked_without requests test queue a.1)
+
+-- what is told of opens that end or wait for their client asks nothing of the host
+parts_nothing : (requests : ℕ → FileRequest) (manager : Manager) (test : Open → Bool) (after : Server) (host : Host)
+    → does_all requests ([] ++ ended_between manager.server after ++ left_behind test manager.server)
+    (record { host = host; outs = [] }) ≡ record { host = host; outs = [] }
+parts_nothing requests manager test after host =
+    let start : Hosted = record { host = host; outs = [] } in
+    left_nothing requests test manager.server ([] ++ ended_between manager.server after) start
+    ∙ ends_nothing requests manager.server after [] start ∙ does_none requests start
 
 lost_serves : (requests : ℕ → FileRequest) (manager : Manager) (host : Host) (server : Server) (client : ℕ)
     → AreServer requests manager host server
     → Serves requests host (lost client (handling manager)) (rules.links_lost server client)
 lost_serves requests manager host server client are =
-    let none = ends_nothing requests manager.server (rules.links_lost manager.server client).server []
-    (record { host = host; outs = [] }) ∙ does_none requests (record { host = host; outs = [] }) in record {
+    let none = parts_nothing requests manager (λ one. one.client == client) (rules.links_lost manager.server client).server host in
+    record {
       server = record {
         without_bytes = ap (λ (m : Server). (rules.links_lost m client).server) are.without_bytes
             ∙ ap (λ (q : Progress). q.server) (links_so server client);
         waiting = λ file. ap (without (λ (one : Held). one.client == client)) (are.waiting file)
             ∙ filter_map (λ (one : Held). not (one.client == client)) (filled requests) (manager.queues file);
-        asked = λ file. asked_of_others requests client (manager.queues file) (are.asked file);
+        asked = λ file. asked_without requests (is_of client) (manager.queues file) (are.asked file);
         hosts = subst (λ (d : Hosted). IsHostOf d.host (rules.links_lost server client).server) (sym none)
             (host_of_lost host server client are.hosts);
       };
@@ -391,19 +411,12 @@ cuts requests manager host server client are =
 
 -- ---- withdrawals
 
-asked_apart : (requests : ℕ → FileRequest) (client tag : ℕ) (queue : List Tagged) → AreAsked requests queue
-    → AreAsked requests (without (is_under client tag) queue)
-asked_apart requests client tag [] a = tt
-asked_apart requests client tag (one ∷ queue) a = if_cases (AreAsked requests) (not (is_under client tag one))
-    (one ∷ without (is_under client tag) queue) (without (is_under client tag) queue)
-    (λ other. (a.0, asked_apart requests client tag queue a.1)) (λ its. asked_apart requests client tag queue a.1)
-
 taken_serves : (requests : ℕ → FileRequest) (manager : Manager) (host : Host) (server : Server) (file client tag : ℕ)
     → AreServer requests manager host server → Serves requests host (rules.taken_back file client tag (handling manager))
     (held_left file (map (filled requests) (without (is_under client tag) (manager.queues file))) (begun server))
 taken_serves requests manager host server file client tag are =
     let left = without (is_under client tag) (manager.queues file) in
-    let asked = asked_apart requests client tag (manager.queues file) (are.asked file) in
+    let asked = asked_without requests (is_under client tag) (manager.queues file) (are.asked file) in
     let same : hosted requests host (rules.taken_back file client tag (handling manager)) ≡ record { host = host; outs = [] } =
     does_one requests (Decision.Withdrawn client tag) (record { host = host; outs = [] }) in record {
       server = record {
@@ -437,6 +450,65 @@ withdraws requests manager host server file client tag are =
     (taken_serves requests manager host server file client tag are)))
     (λ none. begins_serving requests manager host server are)
 
+-- ---- a client leaves some of its opens
+
+left_serves : (requests : ℕ → FileRequest) (manager : Manager) (host : Host) (server : Server) (client : ℕ)
+    (file_ids tags : List ℕ) → AreServer requests manager host server
+    → Serves requests host (rules.left client file_ids tags (handling manager))
+    (requests_left (λ file. map (is_left client tags) (manager.queues file)) (opens_left server client file_ids))
+left_serves requests manager host server client file_ids tags are =
+    let test = is_left client tags in
+    let marks : ℕ → List Bool = λ file. map test (manager.queues file) in
+    let asked : (file : ℕ) → AreAsked requests (without test (manager.queues file)) =
+    λ file. asked_without requests test (manager.queues file) (are.asked file) in
+    let waiting : (file : ℕ) → unmarked (marks file) (server.held file)
+    ≡ map (filled requests) (without test (manager.queues file)) =
+    λ file. ap (unmarked (marks file)) (are.waiting file) ∙ unmarked_map (marks file) (filled requests) (manager.queues file)
+    ∙ ap (map (filled requests)) (marks_leave test (manager.queues file)) in
+    let none = parts_nothing requests manager (is_named client file_ids) (parts_left manager client file_ids tags) host in
+    record {
+      server = record {
+        without_bytes = ap₂ (λ (m : Server) (held : ℕ → List Held). record (opens_left m client file_ids).server { held = held })
+            are.without_bytes (fun_ext (λ file. held_bare requests (without test (manager.queues file)) (asked file)
+            ∙ ap (map bare_held) (sym (waiting file))));
+        waiting = waiting;
+        asked = asked;
+        hosts = subst (λ (d : Hosted). IsHostOf d.host (requests_left marks (opens_left server client file_ids)).server) (sym none)
+            (same_host host (opens_left server client file_ids).server
+            (requests_left marks (opens_left server client file_ids)).server
+            (host_of_parted host server (is_named client file_ids) are.hosts) refl refl refl);
+      };
+      outs = ap (λ (d : Hosted). d.outs) none;
+    }
+
+leaves : (requests : ℕ → FileRequest) (manager : Manager) (host : Host) (server : Server) (client : ℕ) (file_ids tags : List ℕ)
+    → AreServer requests manager host server → Serves requests host (rules.leave manager client file_ids tags)
+    (leave server client file_ids (λ file. map (is_left client tags) (manager.queues file)))
+unfolding rules.leave leave
+leaves requests manager host server client file_ids tags are =
+    both_ways (Serves requests host) (manager.server.present client) (server.present client) _ _ _ _
+    (ap (λ (m : Server). m.present client) are.without_bytes)
+    (λ up. all_serve requests host (rules.left client file_ids tags (handling manager)) _
+    (left_serves requests manager host server client file_ids tags are))
+    (λ down. begins_serving requests manager host server are)
+
+-- ---- other keys give up what they hold
+
+gives_up : (requests : ℕ → FileRequest) (manager : Manager) (host : Host) (server : Server) (own : Option Key) (file : ℕ)
+    (extent : Extent) → AreServer requests manager host server
+    → Serves requests host (rules.give_up manager own file extent) (give_up server own file extent)
+unfolding rules.give_up give_up
+gives_up requests manager host server own file extent are =
+    let after = others_broken server own file extent in
+    let now = ends (others_broken manager.server own file extent).server (handling manager) in
+    all_serve requests host (gone_on 0 (others_broken manager.server own file extent) now) after
+    (subst (λ (q : Progress). Serves requests host (gone_on 0 q now) after)
+    (sym (ap (λ (m : Server). others_broken m own file extent) are.without_bytes ∙ others_so server own file extent))
+    (goes_serving requests host 0 now (begun server) after
+    (ends_serving requests host (others_broken manager.server own file extent).server (handling manager) (begun server)
+    (begins_serving requests manager host server are)) (others_faithfully requests 0 server own file extent)
+    (any_meeting SameHeld tries_hold (others_wants server own file extent) (begun server))))
+
 -- ---- any of them
 
 pub any_serves : (requests : ℕ → FileRequest) (manager : Manager) (host : Host) (server : Server) (coming : Coming)
@@ -454,6 +526,10 @@ any_serves requests manager host server (Coming.Scavenges file_id) are free =
     scavenges requests manager host server file_id are
 any_serves requests manager host server (Coming.Withdraws file client tag) are free =
     withdraws requests manager host server file client tag are
+any_serves requests manager host server (Coming.GivesUp own file extent) are free =
+    gives_up requests manager host server own file extent are
+any_serves requests manager host server (Coming.Leaves client file_ids tags) are free =
+    leaves requests manager host server client file_ids tags are
 
 pub hosts_are_servers : HostsAreServers
 hosts_are_servers requests manager host server coming are free =

@@ -5,7 +5,8 @@ use Rattle.lease_laws.proofs.Words.{append_assoc, break_begun, break_notice}
 use Rattle.lease_laws.proofs.Words.{flat_map-append, is_left_open, lease_lowered, map, map-append}
 use Rattle.lease_laws.proofs.Words.{not, opens_dropped, refl, subst, sym, tried}
 use Rattle.lease_laws.proofs.server.Lists.{among_filter}
-use Rattle.lease_laws.proofs.server.cases.Tries.{any_try}
+use Rattle.lease_laws.proofs.server.cases.Tries.{HasTries, any_meeting, any_try}
+use Rattle.lease_laws.proofs.Words.{Extent, Key, Option, begun, others_broken, others_wants}
 use Rattle.manager_model.specs.Bare.{bare_out}
 use Rattle.manager_model.specs.Decisions.{Decision, told_of, told_of_out}
 use Rattle.manager_model.specs.Hosting.{Host, Hosted, IsHostOf, does, does_all}
@@ -126,9 +127,8 @@ same_host host before after is contents opens last = record {
   numbered = λ one among. subst (λ n. one.file_id ≤ n) (sym last) (is.numbered one (subst (λ xs. Among one xs) opens among));
 }
 
-pub tries_faithfully : (requests : ℕ → FileRequest) (tag client : ℕ) (request : FileRequest) (progress : Progress)
-    → GoesFaithfully requests tag progress (tried client request progress).progress
-tries_faithfully requests tag client request progress = any_try (GoesFaithfully requests tag) (record {
+tries_are_faithful : (requests : ℕ → FileRequest) (tag : ℕ) → HasTries (GoesFaithfully requests tag)
+tries_are_faithful requests tag = record {
   same = stays_faithful requests tag;
   behind = faithful_then requests tag;
   drop = λ key p. nothing_done requests tag p (opens_dropped (is_left_open key) p) refl
@@ -139,4 +139,15 @@ tries_faithfully requests tag client request progress = any_try (GoesFaithfully 
   begin = λ key lowered p settled. one_done requests tag p (break_begun key lowered p)
       (Out.Sent key.client (break_notice key (p.server.leases key).state lowered) ∷ []) _ refl refl
       (λ host outs is. (refl, same_host host p.server (break_begun key lowered p).server is refl refl refl));
-}) 3 client request progress
+}
+
+pub tries_faithfully : (requests : ℕ → FileRequest) (tag client : ℕ) (request : FileRequest) (progress : Progress)
+    → GoesFaithfully requests tag progress (tried client request progress).progress
+tries_faithfully requests tag client request progress =
+    any_try (GoesFaithfully requests tag) (tries_are_faithful requests tag) 3 client request progress
+
+-- breaks for what other keys are to give up
+pub others_faithfully : (requests : ℕ → FileRequest) (tag : ℕ) (server : Server) (own : Option Key) (file : ℕ) (extent : Extent)
+    → GoesFaithfully requests tag (begun server) (others_broken server own file extent)
+others_faithfully requests tag server own file extent = any_meeting (GoesFaithfully requests tag)
+    (tries_are_faithful requests tag) (others_wants server own file extent) (begun server)

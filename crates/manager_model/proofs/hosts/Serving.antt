@@ -1,12 +1,12 @@
 -- A manager and its host go as the server goes, step by step.
 use Rattle.lease_laws.proofs.Words.{◌++◌, ◌==◌, ◌∙◌, ◌∷◌, ◌≡◌, FileRequest, Held, List, Open, Progress, Server, ℕ, ap}
-use Rattle.lease_laws.proofs.Words.{ap₂, begun, fun_ext, is_behind, map}
+use Rattle.lease_laws.proofs.Words.{Bool, ap₂, begun, fun_ext, is_behind, map}
 use Rattle.lease_laws.proofs.Words.{put, refl, subst, sym, waits_behind, without, []}
 use Rattle.lease_laws.proofs.server.Lists.{if_cases}
 use Rattle.lease_state.specs.declared.rules.Rules.{Rules}
 use Rattle.manager_model.specs.Bare.{bare_held, bare_progress}
 use Rattle.manager_model.specs.Decisions.{Decision}
-use Rattle.manager_model.specs.Handling.{Handling, Tagged, ended_between, ends, gone_on, held_in, is_open, queued}
+use Rattle.manager_model.specs.Handling.{Handling, Tagged, ended_between, ends, gone_on, held_in, is_open, left_behind, queued}
 use Rattle.manager_model.specs.Hosting.{AreAsked, AreServer, Host, Hosted, IsHostOf, does_all, filled, hosted}
 use Rattle.manager_model.proofs.bytes.Steps.{any_map, map_put}
 use Rattle.manager_model.proofs.hosts.Before.{behind}
@@ -84,6 +84,19 @@ pub ends_nothing : (requests : ℕ → FileRequest) (before after : Server) (tol
 unfolding ended_between
 ends_nothing requests before after told done = does_then requests told (ended_between before after) done
     ∙ does_ends requests (without (is_open after) before.opens) (does_all requests told done)
+
+-- nor that they wait for their client
+does_left : (requests : ℕ → FileRequest) (opens : List Open) (done : Hosted)
+    → does_all requests (map (λ (one : Open). Decision.LeftBehind one.file_id) opens) done ≡ done
+unfolding does_all
+does_left requests [] done = refl
+does_left requests (one ∷ opens) done = does_left requests opens done
+
+pub left_nothing : (requests : ℕ → FileRequest) (test : Open → Bool) (server : Server) (told : List Decision) (done : Hosted)
+    → does_all requests (told ++ left_behind test server) done ≡ does_all requests told done
+unfolding left_behind
+left_nothing requests test server told done = does_then requests told (left_behind test server) done
+    ∙ does_left requests _ (does_all requests told done)
 
 pub ends_serving : (requests : ℕ → FileRequest) (start : Host) (after : Server) (now : Handling) (progress : Progress)
     → Serves requests start now progress → Serves requests start (ends after now) progress
