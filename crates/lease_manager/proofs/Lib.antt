@@ -1,3 +1,4 @@
+pub mod follows
 pub mod opens
 pub mod sums
 pub mod tries

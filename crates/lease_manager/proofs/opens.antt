@@ -2,6 +2,6 @@ pub mod Expiring
 pub mod Filing
 pub mod Joining
 pub mod LeftOpens
-pub mod Losing
 pub mod Owners
+pub mod Parting
 pub mod Tabling

@@ -1,7 +1,9 @@
 pub mod Agreeing
 pub mod Asking
 pub mod Demanding
+pub mod GivenUp
 pub mod Hindering
+pub mod Listed
 pub mod Mapping
 pub mod Ordering
 pub mod Recording

@@ -1,4 +1,5 @@
 pub mod Counted
+pub mod Listed
 pub mod OneFile
 pub mod Passing
 pub mod Queuing

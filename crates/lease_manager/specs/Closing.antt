@@ -1,8 +1,7 @@
--- Which opens are closed together, by the leases that there are.
+-- Which opens are closed together, and which outlive a connection.
 use Rattle.std.specs.Prelude.{Bool, ◌==◌, ◌&&◌, not}
 use Rattle.lease_model.specs.server.Attempt.{is_left_open}
 use Rattle.lease_model.specs.server.Calls.{is_left_behind}
-use Rattle.lease_model.specs.server.Naming.{key_under}
 use Rattle.lease_model.specs.server.State.{Open, Lease, no_lease, is_breaking, has_key}
 use Rattle.lease_model.specs.values.Keys.{Key}
 use Rattle.std.specs.Prelude.{Option, Some, None}
@@ -17,11 +16,8 @@ lease_under leases (Some key) = leases key
 abbrev pub outlives_under : Lease → Open → Bool
 outlives_under lease one = one.durable && lease.state.handle && not (is_breaking lease)
 
-abbrev pub closes : code.Closing → (Key → Lease) → Open → Bool
-closes (code.TheVariants.Named fid) leases one = one.file_id == fid.0
-closes (code.TheVariants.LeftBehind fid) leases one = is_left_behind fid.0 one
-closes (code.TheVariants.Of key) leases one = has_key key one
-closes (code.TheVariants.LeftOf key) leases one = is_left_open key one
-closes (code.TheVariants.LostBy client) leases one =
-    one.client == client.0 && one.connected
-    && not (outlives_under (lease_under leases (key_under one.client one.lease_key)) one)
+abbrev pub closes : code.Closing → Open → Bool
+closes (code.TheVariants.Named fid) one = one.file_id == fid.0
+closes (code.TheVariants.LeftBehind fid) one = is_left_behind fid.0 one
+closes (code.TheVariants.Of key) one = has_key key one
+closes (code.TheVariants.LeftOf key) one = is_left_open key one

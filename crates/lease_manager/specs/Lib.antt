@@ -1,8 +1,13 @@
+pub mod Always
+pub mod Breaking
+pub mod Calls
 pub mod Closing
 pub mod Coming
+pub mod Durable
 pub mod Ending
 pub mod Filed
 pub mod Findings
+pub mod GivingUp
 pub mod Hindering
 pub mod Kept
 pub mod KeyOrder
@@ -11,10 +16,13 @@ pub mod Laws
 pub mod Leases
 pub mod LeftOpens
 pub mod Listing
+pub mod Listings
 pub mod Looks
 pub mod OneFile
 pub mod Outs
+pub mod Parting
 pub mod Passing
+pub mod Questions
 pub mod Queues
 pub mod Requests
 pub mod StillWaiting

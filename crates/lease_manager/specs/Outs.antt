@@ -66,6 +66,7 @@ decision_of (decision.TheVariants.Acknowledged client key state) =
     told.Decision.Acknowledged client.0 (record { key = key.0; state = state_of state })
 decision_of (decision.TheVariants.NotAcknowledged client status) = told.Decision.NotAcknowledged client.0 status
 decision_of (decision.TheVariants.Ended file_id) = told.Decision.Ended file_id.0
+decision_of (decision.TheVariants.LeftBehind file_id) = told.Decision.LeftBehind file_id.0
 
 abbrev pub decisions : List decision.Decision → List told.Decision
 decisions items = map decision_of items

@@ -3,7 +3,7 @@ use Rattle.std.specs.Prelude.{ℕ, Bool, ◌&&◌, Option, Some, None, List, [],
 use Rattle.std.specs.BTreeMap.{get}
 use Rattle.lease_model.specs.values.Lists.{without}
 use Rattle.lease_model.specs.values.Tables.{put}
-use Rattle.manager_model.specs.Handling.{Tagged, is_of}
+use Rattle.manager_model.specs.Handling.{Tagged}
 use Rattle.lease_manager.specs.Summaries.{file_order}
 use Rattle.lease_manager.specs.Table.{Queue}
 use Rattle.lease_manager.specs.declared.values.number.FileNo.{FileNo}
@@ -28,8 +28,7 @@ is_file last file = nat_le 1 file && nat_le file last
 abbrev pub file_numbers : List FileNo → List ℕ
 file_numbers files = map (λ file. file.0) files
 
--- the queues without the requests of the client on these files
-unfoldable pub all_without : ℕ → List ℕ → (ℕ → List Tagged) → ℕ → List Tagged
-all_without client [] queues = queues
-all_without client (file ∷ files) queues =
-    all_without client files (put queues file (without (is_of client) (queues file)))
+-- the queues without the requests on these files that pass the test
+unfoldable pub all_without : (Tagged → Bool) → List ℕ → (ℕ → List Tagged) → ℕ → List Tagged
+all_without test [] queues = queues
+all_without test (file ∷ files) queues = all_without test files (put queues file (without test (queues file)))

@@ -81,3 +81,10 @@ client_gone client manager = record {
   };
   queues = λ file. without (is_of client) (manager.queues file);
 }
+
+-- the requests that pass the test wait no longer
+abbrev pub requests_gone : (Tagged → Bool) → Manager → Manager
+requests_gone test manager = record {
+  server = record manager.server { held = λ file. held_in (without test (manager.queues file)) };
+  queues = λ file. without test (manager.queues file);
+}

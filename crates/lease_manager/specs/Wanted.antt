@@ -12,7 +12,7 @@ use Rattle.lease_manager.specs.declared.tables.summaries.LeaseRecord.{LeaseRecor
 use Rattle.lease_manager.specs.declared.tables.summaries.Summaries.{Summaries}
 use Rattle.lease_manager.specs.declared.values.want.Demand.{Demand}
 use Rattle.lease_manager.specs.declared.values.want.Wish.{Wish}
-use Rattle.lease_manager.specs.declared.values.want.Wish.TheVariants.{NoHandles, NoWrites, Nothing}
+use Rattle.lease_manager.specs.declared.values.want.Wish.TheVariants.{AnyHandles, NoHandles, NoWrites, Nothing}
 
 abbrev pub is_own_key : Option Key → Key → Bool
 is_own_key None key = false
@@ -22,6 +22,7 @@ is_own_key (Some own) key = key_eq key own
 abbrev pub needs_lease : Wish → LeaseRecord → Bool
 needs_lease (NoHandles access share) known =
     tally_conflicts access share known.tally && (state_of known.lease.state).handle
+needs_lease AnyHandles known = (state_of known.lease.state).handle
 needs_lease NoWrites known = (state_of known.lease.state).write
 needs_lease Nothing known = holds_any (state_of known.lease.state)
 
@@ -37,6 +38,7 @@ is_wanted_key summaries demand key =
 -- the keys among which are all whose leases can be wanted
 abbrev pub keys_for : Wish → FileSummary → BTreeSet Key
 keys_for (NoHandles access share) summary = summary.keys
+keys_for AnyHandles summary = summary.keys
 keys_for NoWrites summary = summary.writers
 keys_for Nothing summary = summary.keys
 

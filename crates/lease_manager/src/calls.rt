@@ -1,7 +1,10 @@
 ghost use Rattle.std.specs.Prelude.{◌≡◌, [], true, false, IsOk, OnOk, Some, None};
 ghost use Rattle.std.specs.List.{list_any};
 ghost use Rattle.lease_manager.specs.Coming.{applies, handled};
+ghost use Rattle.lease_manager.specs.GivingUp.{extent_of};
+ghost use Rattle.lease_manager.specs.LeftOpens.{numbers};
 ghost use Rattle.lease_manager.specs.Outs.{handling_of};
+ghost use Rattle.lease_manager.specs.Parting.{tag_numbers};
 ghost use Rattle.lease_manager.specs.Requests.{request_like};
 ghost use Rattle.lease_manager.specs.Table.{manager_of, queue_at, server_of};
 ghost use Rattle.lease_model.specs.server.Acknowledge.{acknowledged};
@@ -14,11 +17,13 @@ ghost use Rattle.manager_model.specs.Handling as rules;
 use crate::outs::Outs;
 use crate::requests::acknowledge::acknowledge as judge;
 use crate::requests::arrival::first_try;
+use crate::requests::giving_up::break_others;
 use crate::requests::passes::try_all;
 use crate::tables::Tables;
 use crate::told::Told;
 use crate::values::closing::Closing;
 use crate::values::coming::Coming;
+use crate::values::extent::Extent;
 use crate::values::key::LeaseName;
 use crate::values::number::{ClientNo, FileNo, Tag};
 use crate::values::request::Ask;
@@ -41,6 +46,7 @@ pub fn handle(tables: &mut Tables, told: &mut Told, coming: Coming) -> Result<()
         Coming::Expires(key) => expire(tables, told, key),
         Coming::Scavenges(fid) => scavenge(tables, told, fid),
         Coming::Withdraws { file, client, tag } => withdraw(tables, told, file, client, tag),
+        Coming::GivesUp { own, file, extent } => give_up(tables, told, own, file, extent),
     }
 }
 
@@ -174,9 +180,10 @@ pub fn cut(tables: &mut Tables, told: &mut Told, client: ClientNo) -> Result<(),
 fn lose(tables: &mut Tables, told: &mut Told, client: ClientNo) -> Result<(), Memory>
     ensures { OnOk result (handling_of tables.new told.new ≡ rules.lost client.0 (handling_of tables.old told.old)) }
 {
-    let ids = tables.close(Closing::LostBy(client))?;
-    told.ended_all(&ids)?;
-    tables.disconnect(client)?;
+    let named = tables.of_client(client)?;
+    let parted = tables.part(&named)?;
+    told.ended_all(&parted.ended)?;
+    told.left_behind_all(&parted.left)?;
     tables.forget(client)?;
     Ok(())
 }
@@ -266,5 +273,63 @@ fn take_back(
 {
     tables.withdraw(file, client, tag);
     told.withdrawn(client, tag)?;
+    Ok(())
+}
+
+/// A client leaves some of its opens, and requests that wait, and stays connected.
+#[tactic(auto, unfolding(manager_model::specs::Handling::leave))]
+pub fn leave(
+    tables: &mut Tables,
+    told: &mut Told,
+    client: ClientNo,
+    file_ids: &[FileId],
+    tags: &[Tag],
+) -> Result<(), Memory>
+    requires { told.old ≡ [] }
+    ensures step { OnOk result (handling_of tables.new told.new
+        ≡ rules.leave (manager_of tables.old) client.0 (numbers file_ids.now) (tag_numbers tags.now)) }
+    ensures idle { (server_of tables.old).present client.0 ≡ false → IsOk result }
+{
+    if tables.is_present(client) {
+        let_go(tables, told, client, file_ids, tags)?;
+        try_all(tables, told)?;
+    }
+    Ok(())
+}
+
+// Of these opens those that don't outlive a connection are closed, and the others disconnected, and these requests are forgotten.
+fn let_go(
+    tables: &mut Tables,
+    told: &mut Told,
+    client: ClientNo,
+    file_ids: &[FileId],
+    tags: &[Tag],
+) -> Result<(), Memory>
+    ensures { OnOk result (handling_of tables.new told.new
+        ≡ rules.left client.0 (numbers file_ids.now) (tag_numbers tags.now) (handling_of tables.old told.old)) }
+{
+    let named = tables.named(client, file_ids)?;
+    let parted = tables.part(&named)?;
+    told.ended_all(&parted.ended)?;
+    told.left_behind_all(&parted.left)?;
+    tables.leave(client, tags)?;
+    Ok(())
+}
+
+/// Other keys on a file give up what they hold.
+#[tactic(auto, unfolding(manager_model::specs::Handling::give_up))]
+pub fn give_up(
+    tables: &mut Tables,
+    told: &mut Told,
+    own: Option<LeaseName>,
+    file: FileNo,
+    extent: Extent,
+) -> Result<(), Memory>
+    requires { told.old ≡ [] }
+    ensures step { OnOk result (handling_of tables.new told.new
+        ≡ rules.give_up (manager_of tables.old) own file.0 (extent_of extent)) }
+{
+    break_others(tables, told, own, file, extent)?;
+    try_all(tables, told)?;
     Ok(())
 }

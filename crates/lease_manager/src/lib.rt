@@ -11,6 +11,9 @@
 //! A call that finds no memory leaves a manager as a new one of its rules: its host lets go of all that is open, and answers
 //! what waits.
 //!
+//! [`Manager::laws`] and [`Manager::law_of_breaks`] say what holds of every manager, whatever was asked of it: one writer, no
+//! conflict, what is kept for a client that is away lasts, and a Break stands before the write that needed it.
+//!
 //! A host whose files can be truncated, overwritten or locked asks for a write there, and one that renames or removes a file asks
 //! for an open that shares nothing, whose refusal doesn't matter.
 //!
@@ -35,8 +38,10 @@
 //! ```
 #![tactic(auto)]
 
+mod call_laws;
 mod calls;
 mod ended;
+mod keeping;
 mod laws;
 mod manager;
 mod outs;
@@ -45,11 +50,14 @@ mod tables;
 mod told;
 mod values;
 
+pub use call_laws::managers_are_servers;
 pub use laws::managers_are_those_of_hosts;
 pub use manager::Manager;
 pub use values::decision::{BreakNotice, CreateAnswer, Decision};
+pub use values::extent::Extent;
 pub use values::key::LeaseName;
 pub use values::lease::HeldLease;
+pub use values::listed::{ListedLease, ListedRequest};
 pub use values::number::{ClientNo, FileNo, Tag};
 pub use values::open::ListedOpen;
 pub use values::request::{Ask, CreateAsk};

@@ -2,25 +2,30 @@ ghost use Rattle.std.specs.Prelude.{◌≡◌, [], true, false, IsOk, IfOk, OnEr
 ghost use Rattle.std.specs.List.{list_any};
 ghost use Rattle.std.specs.Option.{option_map};
 ghost use Rattle.lease_manager.specs.Coming.{applies, handled};
+ghost use Rattle.lease_manager.specs.GivingUp.{extent_of};
 ghost use Rattle.lease_manager.specs.Leases.{lease_of};
+ghost use Rattle.lease_manager.specs.LeftOpens.{numbers};
 ghost use Rattle.lease_manager.specs.Listing.{open_of};
 ghost use Rattle.lease_manager.specs.Outs.{IsAfter};
+ghost use Rattle.lease_manager.specs.Parting.{tag_numbers};
 ghost use Rattle.lease_manager.specs.Requests.{request_like};
 ghost use Rattle.lease_manager.specs.Table.{manager_of, queue_at, server_of};
 ghost use Rattle.lease_model.specs.server.Allowed as grants;
 ghost use Rattle.lease_model.specs.server.Calls.{is_left_behind};
+ghost use Rattle.lease_model.specs.server.GivingUp as given_up;
 ghost use Rattle.lease_model.specs.server.Naming.{key_of, key_under};
 ghost use Rattle.lease_model.specs.server.Queries as queries;
 ghost use Rattle.lease_state.specs.State.{state_of};
 ghost use Rattle.manager_model.specs.Handling as model;
 ghost use Rattle.manager_model.specs.Hosting.{fresh_manager};
 
-use crate::calls;
+use crate::keeping::{ended, first_tables, handle, join, leave};
 use crate::laws::managers_are_those_of_hosts;
 use crate::tables::Tables;
 use crate::told::Told;
 use crate::values::coming::Coming;
 use crate::values::decision::Decision;
+use crate::values::extent::Extent;
 use crate::values::key::LeaseName;
 use crate::values::lease::HeldLease;
 use crate::values::number::{ClientNo, FileNo, Tag};
@@ -31,6 +36,10 @@ use std::alloc::Global;
 use std::marker::Model;
 use std::mem;
 
+mod always;
+mod listings;
+mod questions;
+
 /// A manager of leases: the opens, the leases and the requests that wait for a break, of files that its host keeps.
 #[derive(Debug, Drop)]
 pub struct Manager {
@@ -38,11 +47,14 @@ pub struct Manager {
 }
 
 impl Model for Manager {
+    ghost use Rattle.lease_manager.specs.Always.{IsManager};
     ghost use Rattle.lease_manager.specs.Table as table;
 
     ghost Value = { table.Table };
 
     ghost view = { λ manager. manager.tables };
+
+    ghost invariant = { λ manager. IsManager manager.tables };
 }
 
 impl Manager {
@@ -61,7 +73,7 @@ impl Manager {
         ensures { manager_of result ≡ fresh_manager rules files.0 }
     {
         Manager {
-            tables: Tables::new(alloc, rules, files),
+            tables: first_tables(alloc, rules, files),
         }
     }
 
@@ -79,18 +91,6 @@ impl Manager {
         self.tables.files()
     }
 
-    // A call came to this. Where memory ran out all is forgotten but the rules and the last number of a file, which are these.
-    fn ended(&mut self, came: Result<(), Memory>, rules: Rules, files: FileNo) -> Result<(), Memory>
-        ensures same { result ≡ came }
-        ensures kept { OnOk came (self.new ≡ self.old) }
-        ensures forgotten { OnErr came (manager_of self.new ≡ fresh_manager rules files.0) }
-    {
-        if came.is_err() {
-            self.tables = Tables::new(self.tables.alloc(), rules, files);
-        }
-        came
-    }
-
     // Something comes, and what is decided is on the list afterwards.
     fn call(&mut self, coming: Coming, decisions: &mut Vec<Decision>) -> Result<(), Memory>
         ensures after { OnOk result (IsAfter self.new decisions.new.items (handled coming (manager_of self.old))) }
@@ -100,9 +100,9 @@ impl Manager {
     {
         let (rules, files) = (self.rules(), self.files());
         let mut told = Told::over(taken_out(decisions));
-        let came = calls::handle(&mut self.tables, &mut told, coming);
+        let came = handle(&mut self.tables, &mut told, coming);
         *decisions = told.into_vec();
-        self.ended(came, rules, files)
+        ended(&mut self.tables, came, rules, files)
     }
 
     /// A client connects (MS-SMB2 3.3.5.1). The keys of its leases whose timer ran out may be granted states again
@@ -119,8 +119,8 @@ impl Manager {
             (manager_of self.new ≡ fresh_manager (server_of self.old).rules (server_of self.old).files) }
     {
         let (rules, files) = (self.rules(), self.files());
-        let came = calls::join(&mut self.tables, client);
-        self.ended(came, rules, files)
+        let came = join(&mut self.tables, client);
+        ended(&mut self.tables, came, rules, files)
     }
 
     /// A client asks something of a file, under a tag under which nothing of it waits (MS-SMB2 3.3.5). It is refused at once
@@ -218,6 +218,63 @@ impl Manager {
             (manager_of self.new ≡ fresh_manager (server_of self.old).rules (server_of self.old).files) }
     {
         self.call(Coming::IsCut(client), decisions)
+    }
+
+    /// A client leaves these of its opens, and what it asked under these tags and waits: the connection or the session that made
+    /// them goes, and the client stays, by another one (own; MS-SMB2 3.3.5.6, 3.3.7.1). Each open stays or ends as it would were
+    /// the client cut: a decision says which. Of the requests none is told. What waits otherwise is tried again. FileIds and tags
+    /// that aren't the client's are passed over. The decisions are on the list afterwards, whatever was there. Where the client
+    /// isn't connected there is none, and nothing changes.
+    ///
+    /// # Errors
+    ///
+    /// `Memory` where there is none left, and never where the client isn't connected. The manager has forgotten all but its rules and
+    /// files then, as a new one, and the list has nothing of worth.
+    pub fn leave(
+        &mut self,
+        client: ClientNo,
+        file_ids: &[FileId],
+        tags: &[Tag],
+        decisions: &mut Vec<Decision>,
+    ) -> Result<(), Memory>
+        ensures after { OnOk result (IsAfter self.new decisions.new.items
+            (model.leave (manager_of self.old) client.0 (numbers file_ids.now) (tag_numbers tags.now))) }
+        ensures idle { (server_of self.old).present client.0 ≡ false → IsOk result }
+        ensures forgotten { OnErr result
+            (manager_of self.new ≡ fresh_manager (server_of self.old).rules (server_of self.old).files) }
+    {
+        let (rules, files) = (self.rules(), self.files());
+        let mut told = Told::over(taken_out(decisions));
+        let came = leave(&mut self.tables, &mut told, client, file_ids, tags);
+        *decisions = told.into_vec();
+        ended(&mut self.tables, came, rules, files)
+    }
+
+    /// Other keys on a file than this one of the client's give up handles, or all that they cache; with no key each gives up (own).
+    /// So a host changes, locks, renames or removes a file where no open of a client asks it: it calls this, sends what is told, and
+    /// goes on at once where `is_given_up` says so, before anything else; else it calls this again after an acknowledgment, a close,
+    /// a cut or a timer. Each lease is broken once, straight to what is left of it (MS-SMB2 3.3.4.7), and opens of these keys that
+    /// wait for their clients end. Then what waits is tried again. The decisions are on the list afterwards, whatever was there.
+    ///
+    /// # Errors
+    ///
+    /// `Memory` where there is none left. The manager has forgotten all but its rules and files then, as a new one, and the list has
+    /// nothing of worth.
+    pub fn give_up(
+        &mut self,
+        client: ClientNo,
+        key: Option<LeaseKey>,
+        file: FileNo,
+        extent: Extent,
+        decisions: &mut Vec<Decision>,
+    ) -> Result<(), Memory>
+        ensures after { OnOk result (IsAfter self.new decisions.new.items (model.give_up (manager_of self.old)
+            (key_under client.0 (option_map (λ bytes. bytes.0) key)) file.0 (extent_of extent))) }
+        ensures forgotten { OnErr result
+            (manager_of self.new ≡ fresh_manager (server_of self.old).rules (server_of self.old).files) }
+    {
+        let own = own_key(client, key);
+        self.call(Coming::GivesUp { own, file, extent }, decisions)
     }
 
     /// The timer of a lease break runs out (MS-SMB2 3.3.6.5): the opens of the client's lease of this key end, and the key is
@@ -338,6 +395,21 @@ impl Manager {
             (key_under client.0 (option_map (λ bytes. bytes.0) key)) file.0 (state_of want) }
     {
         self.tables.allowed(own_key(client, key), file, want)
+    }
+
+    /// Whether no other key on the file than this one of the client's holds handles, or is in the way of a change: one that caches
+    /// writes is, and one that caches anything and isn't breaking to nothing (own). With no key each other key counts.
+    pub fn is_given_up(
+        &self,
+        client: ClientNo,
+        key: Option<LeaseKey>,
+        file: FileNo,
+        extent: Extent,
+    ) -> bool
+        ensures { result ≡ given_up.is_given_up (server_of self.now)
+            (key_under client.0 (option_map (λ bytes. bytes.0) key)) file.0 (extent_of extent) }
+    {
+        self.tables.is_given_up(own_key(client, key), file, extent)
     }
 
     /// Whether there is an open of this FileId, connected or not.

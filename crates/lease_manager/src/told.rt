@@ -101,6 +101,22 @@ impl Told {
         Ok(())
     }
 
+    /// The opens of these FileIds wait for their clients from now on.
+    pub fn left_behind_all(&mut self, ids: &[FileId]) -> Result<(), Memory>
+        ensures { OnOk result (self.new ≡ self.old ++ map model.Decision.LeftBehind (numbers ids.now)) }
+    {
+        for id in ids {
+            self.left_behind(*id)?;
+        }
+        Ok(())
+    }
+
+    fn left_behind(&mut self, file_id: FileId) -> Result<(), Memory>
+        ensures { OnOk result (self.new ≡ self.old ++ model.Decision.LeftBehind file_id.0 ∷ []) }
+    {
+        self.push(Decision::LeftBehind { file_id })
+    }
+
     /// The decisions of what was given out for the request under the tag.
     pub fn tell(&mut self, tag: Tag, outs: &Outs) -> Result<(), Memory>
         ensures { OnOk result (self.new ≡ self.old ++ model.told_of tag.0 outs.now) }

@@ -46,6 +46,7 @@ does_alike one other (Decision.Breaks client notice) done same = refl
 does_alike one other (Decision.Acknowledged client given) done same = refl
 does_alike one other (Decision.NotAcknowledged client status) done same = refl
 does_alike one other (Decision.Ended file_id) done same = refl
+does_alike one other (Decision.LeftBehind file_id) done same = refl
 
 -- one decision more
 pub one_done_more : (told : List Decision) (decision : Decision) (first old new : Kept) (start before after : List Out)

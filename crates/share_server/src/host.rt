@@ -151,6 +151,7 @@ impl Host {
             Decision::Waits { .. } => Ok(()),
             Decision::Withdrawn { .. } => Ok(()),
             Decision::Ended { .. } => Ok(()),
+            Decision::LeftBehind { .. } => Ok(()),
         }
     }
 

@@ -92,7 +92,7 @@ impl FileServer {
                 Decision::Acknowledged { client, .. } => Done::Answered(*client, "acknowledged"),
                 Decision::Refused { client, .. } | Decision::NotAcknowledged { client, .. } => Done::Answered(*client, "refused"),
                 Decision::Closed { client, .. } | Decision::Withdrawn { client, .. } => Done::Answered(*client, "ended"),
-                Decision::Ended { .. } => continue,
+                Decision::Ended { .. } | Decision::LeftBehind { .. } => continue,
             });
         }
         Ok(done)

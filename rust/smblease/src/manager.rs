@@ -24,7 +24,8 @@ use std::alloc::Global;
 use std::prelude::Vec;
 
 pub use crate::proved::lease_manager::{
-    Ask, BreakNotice, ClientNo, CreateAnswer, CreateAsk, Decision, FileNo, HeldLease, ListedOpen, Tag,
+    Ask, BreakNotice, ClientNo, CreateAnswer, CreateAsk, Decision, Extent, FileNo, HeldLease, ListedLease, ListedOpen, ListedRequest,
+    Tag,
 };
 
 /// The opens, the leases and the requests that wait, of files that a server keeps itself.
@@ -105,13 +106,43 @@ impl Manager {
         Ok(&self.decisions)
     }
 
-    /// A client's connection is lost (MS-SMB2 3.3.7.1): durable opens whose lease holds `HANDLE_CACHING` and isn't breaking stay.
+    /// A client's connection is lost (MS-SMB2 3.3.7.1): durable opens whose lease holds `HANDLE_CACHING` and isn't breaking are left
+    /// behind, and the others end.
     ///
     /// # Errors
     ///
     /// Where there is no memory; the manager has forgotten all then.
     pub fn cut(&mut self, client: ClientNo) -> Result<&[Decision], OutOfMemory> {
         self.inner.cut(client, &mut self.decisions)?;
+        Ok(&self.decisions)
+    }
+
+    /// A client leaves these of its opens, and what it asked under these tags and waits: the connection or the session that had them
+    /// goes, and the client stays (own; MS-SMB2 3.3.5.6, 3.3.7.1). Each open ends or is left behind, as by [`cut`](Manager::cut).
+    /// What isn't the client's is passed over.
+    ///
+    /// # Errors
+    ///
+    /// Where there is no memory; the manager has forgotten all then.
+    pub fn leave(&mut self, client: ClientNo, file_ids: &[FileId], tags: &[Tag]) -> Result<&[Decision], OutOfMemory> {
+        self.inner.leave(client, file_ids, tags, &mut self.decisions)?;
+        Ok(&self.decisions)
+    }
+
+    /// Other keys on the file than this one of the client's give up as much; with no key each does (own). The server asks
+    /// [`is_given_up`](Manager::is_given_up) then, and again after an acknowledgment, a close, a cut or a timer.
+    ///
+    /// # Errors
+    ///
+    /// Where there is no memory; the manager has forgotten all then.
+    pub fn give_up(
+        &mut self,
+        client: ClientNo,
+        key: Option<LeaseKey>,
+        file: FileNo,
+        extent: Extent,
+    ) -> Result<&[Decision], OutOfMemory> {
+        self.inner.give_up(client, key, file, extent, &mut self.decisions)?;
         Ok(&self.decisions)
     }
 
@@ -155,6 +186,24 @@ impl Manager {
         Ok(self.inner.opens()?.into_iter())
     }
 
+    /// All leases that opens have, in the order of their clients and keys.
+    ///
+    /// # Errors
+    ///
+    /// Where there is no memory for the list; nothing is forgotten.
+    pub fn leases(&self) -> Result<impl Iterator<Item = ListedLease> + use<>, OutOfMemory> {
+        Ok(self.inner.leases()?.into_iter())
+    }
+
+    /// All requests that wait, file by file, each file's in the order in which they came.
+    ///
+    /// # Errors
+    ///
+    /// Where there is no memory for the list; nothing is forgotten.
+    pub fn waiting(&self) -> Result<impl Iterator<Item = ListedRequest> + use<>, OutOfMemory> {
+        Ok(self.inner.waiting()?.into_iter())
+    }
+
     /// How many opens there are, those that wait for their clients too.
     pub fn open_count(&self) -> usize {
         self.inner.open_count()
@@ -168,6 +217,23 @@ impl Manager {
     /// The lease of the client's key; a key that no open has holds nothing.
     pub fn lease(&self, client: ClientNo, key: LeaseKey) -> HeldLease {
         self.inner.lease(client, key)
+    }
+
+    /// Whether a read by this FileId of the client would be done at once: the server may do it then, before any other call, without
+    /// one.
+    pub fn may_read(&self, file_id: FileId, client: ClientNo) -> bool {
+        self.inner.may_read(file_id, client)
+    }
+
+    /// The same of a write that fits, which would break nothing either.
+    pub fn may_write(&self, file_id: FileId, client: ClientNo) -> bool {
+        self.inner.may_write(file_id, client)
+    }
+
+    /// Whether no other key on the file than this one of the client's is in the way: none holds `HANDLE_CACHING` ([`Extent::Handles`]);
+    /// none caches writes, or caches anything without being broken to nothing ([`Extent::All`]).
+    pub fn is_given_up(&self, client: ClientNo, key: Option<LeaseKey>, file: FileNo, extent: Extent) -> bool {
+        self.inner.is_given_up(client, key, file, extent)
     }
 
     /// The rules that the manager was given.
@@ -212,7 +278,7 @@ impl Manager {
 }
 
 impl Decision {
-    /// The client that it is about. An open that ended by itself is named by its FileId alone.
+    /// The client that it is about. An open that ended or was left behind is named by its FileId alone.
     pub fn client(&self) -> Option<ClientNo> {
         match self {
             Decision::Opened { client, .. }
@@ -224,7 +290,7 @@ impl Decision {
             | Decision::Breaks { client, .. }
             | Decision::Acknowledged { client, .. }
             | Decision::NotAcknowledged { client, .. } => Some(*client),
-            Decision::Ended { .. } => None,
+            Decision::Ended { .. } | Decision::LeftBehind { .. } => None,
         }
     }
 

@@ -1,6 +1,6 @@
 //! What stands round the proved modules: conversions, accessors, and each call of the server, the client's cache and the manager.
 use smblease::client::{Answer, Client, Command};
-use smblease::manager::{Ask, ClientNo, CreateAsk, Decision, FileNo, Tag};
+use smblease::manager::{Ask, ClientNo, CreateAsk, Decision, Extent, FileNo, Tag};
 use smblease::server::{Out, Server};
 use smblease::world::{Judge, Setup, Verdict};
 use smblease::{
@@ -79,9 +79,46 @@ fn a_manager_keeps_a_durable_open() -> Result<(), OutOfMemory> {
     let mut manager = Manager::new(Rules::profile());
     manager.join(one)?;
     manager.ask(one, Tag(1), open(Some((KEY, all)), true))?;
-    assert!(manager.cut(one)?.is_empty());
+    assert_eq!(manager.cut(one)?, [Decision::LeftBehind { file_id: FileId(1) }]);
     assert_eq!((manager.kept(one, FILE), manager.has_left_behind(FileId(1))), (Some(FileId(1)), true));
     assert_eq!(manager.scavenge(FileId(1))?, [Decision::Ended { file_id: FileId(1) }]);
+    Ok(())
+}
+
+// One of two sessions of a client goes, with an open and a request that waits.
+#[test]
+fn a_client_leaves_a_part() -> Result<(), OutOfMemory> {
+    let (one, two, other) = (ClientNo(1), ClientNo(2), FileNo(FILE.0 + 1));
+    let mut manager = Manager::new(Rules::profile());
+    manager.join(one)?;
+    manager.join(two)?;
+    manager.ask(two, Tag(1), open(Some((KEY, LeaseState::from_wire(7))), false))?;
+    manager.ask(one, Tag(1), open(None, false))?;
+    let nothing = CreateAsk { lease: None, durable: false, reconnect: None };
+    let bare = Ask::Create { file: other, access: Access::Read, share: Share::Read, ask: nothing };
+    let Decision::Opened { file_id, .. } = manager.ask(one, Tag(2), bare)?[0] else { panic!("{:?}", manager.decisions()) };
+    assert_eq!(manager.waiting()?.map(|one| (one.file, one.client, one.tag)).collect::<Vec<_>>(), [(FILE, one, Tag(1))]);
+    assert!(manager.may_read(file_id, one) && !manager.may_write(file_id, one) && !manager.may_read(file_id, two));
+    assert_eq!(manager.leave(one, &[file_id], &[Tag(1)])?, [Decision::Ended { file_id }]);
+    assert!(manager.is_connected(one) && !manager.is_waiting(FILE, one, Tag(1)) && !manager.has_open(file_id));
+    Ok(())
+}
+
+#[test]
+fn others_give_up_what_they_hold() -> Result<(), OutOfMemory> {
+    let (one, two) = (ClientNo(1), ClientNo(2));
+    let mut manager = Manager::new(Rules::profile());
+    manager.join(one)?;
+    manager.ask(one, Tag(1), open(Some((KEY, LeaseState::from_wire(7))), false))?;
+    assert!(manager.is_given_up(one, Some(KEY), FILE, Extent::All) && !manager.is_given_up(two, None, FILE, Extent::All));
+    let [Decision::Breaks { notice, .. }] = manager.give_up(two, None, FILE, Extent::All)? else { panic!("{:?}", manager.decisions()) };
+    assert_eq!((notice.lowered, notice.ack_required), (LeaseState::from_wire(0), true));
+    let leases = manager.leases()?.collect::<Vec<_>>();
+    let [lease] = leases[..] else { panic!("{leases:?}") };
+    assert_eq!((lease.client, lease.key, lease.file, lease.opens), (one, KEY, FILE, 1));
+    assert_eq!((lease.state, lease.broken_to), (LeaseState::from_wire(7), Some(LeaseState::from_wire(0))));
+    manager.acknowledge(one, KEY, LeaseState::from_wire(0))?;
+    assert!(manager.is_given_up(two, None, FILE, Extent::All));
     Ok(())
 }
 

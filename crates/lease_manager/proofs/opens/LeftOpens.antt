@@ -11,7 +11,7 @@ use Rattle.std.specs.declared.cmp.Ordering.TheVariants.{Equal, Greater}
 use Rattle.lease_laws.proofs.server.Lists.{either, among_filter, find_has, none_has, not_true}
 use Rattle.lease_manager.proofs.opens.Filing.{test_at, at_id, none_behind, some_same, none_changed, greater}
 use Rattle.lease_manager.specs.Filed.{has_id, connected_at, file_id_order}
-use Rattle.lease_manager.specs.LeftOpens.{AreWaiting, has_key_in, ids_of, is_owner, left_at, numbers}
+use Rattle.lease_manager.specs.LeftOpens.{AreWaiting, found_has, has_key_in, ids_of, is_owner, left_at, numbers}
 use Rattle.lease_manager.specs.Looks.{is_elsewhere, is_left_by}
 use Rattle.lease_manager.specs.declared.tables.left_opens.LeftOpens.{LeftOpens}
 use Rattle.lease_manager.specs.declared.tables.left_opens.Owner.{Owner}
@@ -78,7 +78,7 @@ inserted_id fid (x ∷ ids) = let later = inserted_id fid ids in grind arith
 less_is : (n m : ℕ) → n < m → nat_cmp n m ≡ Less
 less_is n m less = grind (arith, nat_tests, less)
 
-equal_is : (n : ℕ) → nat_cmp n n ≡ Equal
+pub equal_is : (n : ℕ) → nat_cmp n n ≡ Equal
 equal_is n = grind (arith, nat_tests)
 
 pub inserted_first : (n : ℕ) (opens : List Open) → ((other : Open) → Among other opens → n < other.file_id)
@@ -249,20 +249,26 @@ found_itself (x ∷ opens) one order (inr among) =
     below : (n m : ℕ) → n < m → (n == m) ≡ false
     below n m less = grind (arith, nat_tests, less)
 
-pub picked_of_key : (key : Key) (opens : List Open) → AreInOrder opens → (ids : List FileId) (some : List Open)
+-- of rising FileIds those whose opens pass a test
+pub picked_by : (test : Option Open → Bool) (opens : List Open) → AreInOrder opens → (ids : List FileId) (some : List Open)
     → numbers ids ≡ ids_of some → ((one : Open) → Among one some → Among one opens)
-    → numbers (filter (has_key_in opens key) ids) ≡ ids_of (filter (has_key key) some)
-picked_of_key key opens order [] [] same there = refl
-picked_of_key key opens order [] (one ∷ some) same there = absurd (cc same)
-picked_of_key key opens order (x ∷ ids) [] same there = absurd (cc same)
-picked_of_key key opens order (x ∷ ids) (one ∷ some) same there =
+    → numbers (filter (λ (fid : FileId). test (find (has_id fid.0) opens)) ids) ≡ ids_of (filter (λ one. test (Some one)) some)
+picked_by test opens order [] [] same there = refl
+picked_by test opens order [] (one ∷ some) same there = absurd (cc same)
+picked_by test opens order (x ∷ ids) [] same there = absurd (cc same)
+picked_by test opens order (x ∷ ids) (one ∷ some) same there =
     let first = at_head x ids one some same in
     let found : find (has_id x.0) opens ≡ Some one =
     ap (λ n. find (has_id n) opens) first ∙ found_itself opens one order (there one (inl refl)) in
-    let later = picked_of_key key opens order ids some (behind_head x ids one some same) (λ other a. there other (inr a)) in
-    either (has_key key one)
+    let later = picked_by test opens order ids some (behind_head x ids one some same) (λ other a. there other (inr a)) in
+    either (test (Some one))
     (λ has. rw (found, has) (ap₂ (λ m l. m ∷ l) first later))
     (λ has. rw (found, has) later)
+
+pub picked_of_key : (key : Key) (opens : List Open) → AreInOrder opens → (ids : List FileId) (some : List Open)
+    → numbers ids ≡ ids_of some → ((one : Open) → Among one some → Among one opens)
+    → numbers (filter (has_key_in opens key) ids) ≡ ids_of (filter (has_key key) some)
+picked_of_key key opens order ids some = picked_by (found_has key) opens order ids some
 
 pub left_of_key : (key : Key) (file : ℕ) (opens : List Open) → list_any (is_elsewhere key file) opens ≡ false
     → filter (has_key key) (filter (is_left_by key.client file) opens) ≡ filter (is_left_open key) opens

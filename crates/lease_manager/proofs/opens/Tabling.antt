@@ -1,7 +1,7 @@
 -- The tables' opens and lease records as the server that they stand for.
 use Rattle.lease_laws.proofs.Words.{◌++◌, ◌+◌, ◌<◌, ◌^◌, ◌||◌, ◌∙◌, ◌∷◌, ◌≡◌, ◌≤◌, Among, AreInOrder, Bool}
 use Rattle.lease_laws.proofs.Words.{Decides-eqb, Key, Lease, List, None, Open, Option, Server, Some, ℕ, ⊎_elim, [], ap}
-use Rattle.lease_laws.proofs.Words.{append-nil, ap₂, arith, awaits, disconnected, false, filter, find, fun_ext, has_key}
+use Rattle.lease_laws.proofs.Words.{append-nil, ap₂, arith, awaits, false, filter, find, fun_ext, has_key}
 use Rattle.lease_laws.proofs.Words.{if◌then◌else◌, inl, inr, is_at, is_key, is_leased_elsewhere, is_left_behind, key_eq, length}
 use Rattle.lease_laws.proofs.Words.{list_any, map, nat_tests, no_lease, not, put_key, refl, subst, sym, true}
 use Rattle.lease_laws.proofs.Words.{with_lease, with_opens, without}
@@ -10,15 +10,13 @@ use Rattle.std.proofs.lemmas.List.{length-append}
 use Rattle.lease_laws.proofs.server.Goes.{one_id}
 use Rattle.lease_laws.proofs.server.Lists.{either, clash, among_filter, among_filtered, among_append, any_has, has_any, not_true}
 use Rattle.lease_laws.proofs.server.Lists.{among_map, or_of_true, and_parts}
-use Rattle.lease_manager.specs.Closing.{closes}
-use Rattle.lease_manager.specs.Filed.{has_id, is_of, disconnected_at}
+use Rattle.lease_manager.specs.Filed.{has_id, disconnected_at}
 use Rattle.lease_manager.specs.KeyOrder.{key_order}
 use Rattle.lease_manager.specs.Kept.{listed, AreKept, HaveClosed, is_one_of, disconnected_where, lease_put_by, opened_with}
 use Rattle.lease_manager.specs.Leases.{lease_of}
 use Rattle.lease_manager.specs.Looks.{is_connected_as, is_elsewhere}
 use Rattle.lease_manager.specs.Summaries.{Agrees, IsOneMore, StandFor, lease_in, lease_or_none}
 use Rattle.lease_manager.specs.Table.{Table, KeyedLease, lease_at, server_of}
-use Rattle.lease_manager.specs.declared.values.closing.Closing.{Closing}
 use Rattle.lease_manager.specs.declared.tables.summaries.LeaseRecord.{LeaseRecord}
 use Rattle.lease_manager.specs.declared.tables.summaries.Summaries.{Summaries}
 use Rattle.lease_manager.proofs.sums.Mapping.{KeepsCounted, agrees_mapped}
@@ -192,22 +190,21 @@ same_leases : (server : Server) (opens others : List Open) (leases later : Key �
     → with_leases server opens leases ≡ with_leases server others later
 same_leases server opens others leases later a b = grind arith
 
-pub closes_alike : (closing : Closing) (summaries : Summaries)
-    → closes closing (lease_in summaries) ≡ closes closing (lease_at (listed summaries))
-closes_alike closing summaries = ap (closes closing) (sym (leases_are summaries))
-
 -- what is left once the opens of these FileIds are closed is what the rules leave
-pub table_closed : (table : Table) (closing : Closing) (ids : List ℕ) (summaries after : Summaries) (left : List Open)
-    → table.leases ≡ listed summaries → AreInOrder table.opens
-    → ids ≡ map (λ one. one.file_id) (filter (closes closing (lease_in summaries)) table.opens)
+pub opens_closed : (test : Open → Bool) (opens left : List Open) (ids : List ℕ) (summaries after : Summaries) → AreInOrder opens
+    → ids ≡ map (λ one. one.file_id) (filter test opens) → HaveClosed opens ids summaries left after
+    → left ≡ without test opens
+opens_closed test opens left ids summaries after order are closed =
+    let chosen_ones : (one : Open) → Among one opens → is_one_of ids one ≡ test one =
+    λ one a. rw are (chosen test opens one order a) in
+    closed.opens_left ∙ filter_alike (is_one_of ids) test opens chosen_ones
+
+pub table_closed : (table : Table) (test : Open → Bool) (ids : List ℕ) (summaries after : Summaries) (left : List Open)
+    → table.leases ≡ listed summaries → AreInOrder table.opens → ids ≡ map (λ one. one.file_id) (filter test table.opens)
     → HaveClosed table.opens ids summaries left after → server_of (record table { opens = left; leases = listed after })
-    ≡ with_opens (server_of table) (without (closes closing (server_of table).leases) (server_of table).opens)
-table_closed table closing ids summaries after left same order are closed =
-    let chosen_ones : (one : Open) → Among one table.opens → is_one_of ids one ≡ closes closing (lease_in summaries) one =
-    λ one a. rw are (chosen (closes closing (lease_in summaries)) table.opens one order a) in
-    let is : left ≡ without (closes closing (lease_at table.leases)) table.opens = closed.opens_left
-    ∙ (filter_alike (is_one_of ids) (closes closing (lease_in summaries)) table.opens chosen_ones
-    ∙ ap (λ f. without f table.opens) (closes_alike closing summaries ∙ ap (λ l. closes closing (lease_at l)) (sym same))) in
+    ≡ with_opens (server_of table) (without test (server_of table).opens)
+table_closed table test ids summaries after left same order are closed =
+    let is : left ≡ without test table.opens = opens_closed test table.opens left ids summaries after order are closed in
     same_leases (server_of table) _ _ _ _ is (fun_ext (λ key. listed_lease after key ∙ (closed.leases key
     ∙ ap₂ (λ b l. if b then l else no_lease) (ap (λ o. list_any (has_key key) o) is)
     (sym (listed_lease summaries key) ∙ ap (λ l. lease_at l key) (sym same)))))
@@ -293,12 +290,6 @@ disconnected_more ids id (one ∷ opens) = rw (disconnect_more ids id one, disco
 pub disconnected_none : (opens : List Open) → opens ≡ map (disconnected_where (is_one_of [])) opens
 disconnected_none [] = refl
 disconnected_none (one ∷ opens) = ap (λ x. one ∷ x) (disconnected_none opens)
-
-pub disconnected_are : (client : ℕ) (ids : List ℕ) (opens : List Open) → AreInOrder opens
-    → ids ≡ map (λ one. one.file_id) (filter (is_of client) opens)
-    → map (disconnected_where (is_one_of ids)) opens ≡ map (disconnected client) opens
-disconnected_are client ids opens order are = map_alike (disconnected_where (is_one_of ids)) (disconnected client) opens
-    (λ one a. let e = chosen (is_of client) opens one order a in rw (are, e) refl)
 
 pub same_id_where : (test : Open → Bool) (b : Bool) (one : Open)
     → (if test one then record one { connected = b } else one).file_id ≡ one.file_id

@@ -4,7 +4,7 @@ use Rattle.lease_laws.proofs.Words.{Key, Lease, Less, List, None, Open, Option, 
 use Rattle.lease_laws.proofs.Words.{arith, conflict, conflicts_on, false, filter, has_key, has_own_key, holds_any, if◌then◌else◌}
 use Rattle.lease_laws.proofs.Words.{inl, inr, is_at, is_eq, is_key, is_other_on, is_some, key_before, key_eq, key_of, keys_of}
 use Rattle.lease_laws.proofs.Words.{lease_of_open, length, list_any, map, nat_lt, nat_tests, not, refl, subst, suc, sym, true}
-use Rattle.lease_laws.proofs.Words.{true≢false}
+use Rattle.lease_laws.proofs.Words.{lease_by, no_lease, true≢false}
 use Rattle.lease_manager.specs.declared.values.number.FileNo.{FileNo}
 use Rattle.std.specs.BTreeSet.{BTreeSet, contains}
 use Rattle.std.specs.List.{AllByRecursion}
@@ -28,7 +28,7 @@ use Rattle.lease_manager.specs.declared.tables.summaries.LeaseRecord.{LeaseRecor
 use Rattle.lease_manager.specs.declared.tables.summaries.Summaries.{Summaries}
 use Rattle.lease_manager.specs.declared.values.want.Demand.{Demand}
 use Rattle.lease_manager.specs.declared.values.want.Wish.{Wish}
-use Rattle.lease_manager.specs.declared.values.want.Wish.TheVariants.{NoHandles, NoWrites, Nothing}
+use Rattle.lease_manager.specs.declared.values.want.Wish.TheVariants.{AnyHandles, NoHandles, NoWrites, Nothing}
 use Rattle.lease_manager.proofs.sums.Tallies.{conflicts_are}
 use Rattle.lease_manager.specs.declared.tables.file_summary.FileSummary.{FileSummary}
 use Rattle.lease_manager.proofs.sums.Ordering.{order_eq, order_eq-back, order_before}
@@ -284,6 +284,17 @@ wants_to NoWrites own file key summaries server summary (Some known) stand s is 
           (ap (λ (l : Lease). l.state.write) (lease_known summaries server key found.0 known stand is parts.1) ∙ needs);
       has_it = parts.1;
     }
+wants_to AnyHandles own file key summaries server summary (Some known) stand s is fits there apart needs =
+    let found = any_has (has_key_on file.0 key) server.opens (sym (s.keys key) ∙ there) in
+    let parts = and_parts (is_on file.0 found.0) (has_key key found.0) found.2 in
+    record {
+      one = found.0;
+      is_there = found.1;
+      is_wanted = and_both (is_other_on own file.0 found.0) (lease_of_open server found.0).state.handle
+          (other_on own file.0 key found.0 parts.0 parts.1 apart)
+          (ap (λ (l : Lease). l.state.handle) (lease_known summaries server key found.0 known stand is parts.1) ∙ needs);
+      has_it = parts.1;
+    }
 wants_to Nothing own file key summaries server summary (Some known) stand s is fits there apart needs =
     let found = any_has (has_key_on file.0 key) server.opens (sym (s.keys key) ∙ there) in
     let parts = and_parts (is_on file.0 found.0) (has_key key found.0) found.2 in
@@ -334,6 +345,14 @@ wants_from NoWrites own file key summaries server summary (Some known) one stand
       apart = o.1;
       needs = writes;
     }
+wants_from AnyHandles own file key summaries server summary (Some known) one stand s is fits there has wanted =
+    let a = and_parts (is_other_on own file.0 one) (lease_of_open server one).state.handle wanted in
+    let o = on_other own file.0 key one a.0 has in
+    record {
+      there = s.keys key ∙ has_any (has_key_on file.0 key) one server.opens there o.0;
+      apart = o.1;
+      needs = ap (λ (l : Lease). l.state.handle) (sym (lease_known summaries server key one known stand is has)) ∙ a.1;
+    }
 wants_from Nothing own file key summaries server summary (Some known) one stand s is fits there has wanted =
     let a = and_parts (is_other_on own file.0 one) (holds_any (lease_of_open server one).state) wanted in
     let o = on_other own file.0 key one a.0 has in
@@ -376,6 +395,8 @@ on_file : (wish : Wish) (server : Server) (own : Option Key) (file : ℕ) (one :
 on_file (NoHandles access share) server own file one w =
     other_here own file one (and_parts (conflicts_on file access share one) (is_other_on own file one)
     (and_parts (conflicts_on file access share one && is_other_on own file one) (lease_of_open server one).state.handle w).0).1
+on_file AnyHandles server own file one w =
+    other_here own file one (and_parts (is_other_on own file one) (lease_of_open server one).state.handle w).0
 on_file NoWrites server own file one w =
     other_here own file one (and_parts (is_other_on own file one) (lease_of_open server one).state.write w).0
 on_file Nothing server own file one w =
@@ -393,3 +414,59 @@ wanted_none demand server none =
     no_keys (is_demanded demand server) server.opens (λ one a. not_true (is_demanded demand server one) (λ w.
     clash (is_on demand.file.0 one) (on_file demand.wish server demand.own demand.file.0 one w)
     (none_has (is_on demand.file.0) one server.opens none a)))
+
+-- ---- whether any is
+
+-- an open without a key wants nothing
+keyless : (wish : Wish) (server : Server) (own : Option Key) (file : ℕ) (one : Open) → lease_of_open server one ≡ no_lease
+    → is_wanted wish server own file one ≡ true → ⊥
+keyless (NoHandles access share) server own file one none w = clash (lease_of_open server one).state.handle
+    (and_parts (conflicts_on file access share one && is_other_on own file one) (lease_of_open server one).state.handle w).1
+    (ap (λ (l : Lease). l.state.handle) none)
+keyless AnyHandles server own file one none w = clash (lease_of_open server one).state.handle
+    (and_parts (is_other_on own file one) (lease_of_open server one).state.handle w).1 (ap (λ (l : Lease). l.state.handle) none)
+keyless NoWrites server own file one none w = clash (lease_of_open server one).state.write
+    (and_parts (is_other_on own file one) (lease_of_open server one).state.write w).1 (ap (λ (l : Lease). l.state.write) none)
+keyless Nothing server own file one none w = clash (holds_any (lease_of_open server one).state)
+    (and_parts (is_other_on own file one) (holds_any (lease_of_open server one).state) w).1
+    (ap (λ (l : Lease). holds_any l.state) none)
+
+keyed : (wish : Wish) (server : Server) (own : Option Key) (file : ℕ) (one : Open) (bytes : Option (List ℕ))
+    → one.lease_key ≡ bytes → is_wanted wish server own file one ≡ true → (key : Key) × (has_key key one ≡ true)
+keyed wish server own file one None e w =
+    absurd (keyless wish server own file one (ap (λ b. lease_by server one.client b) e) w)
+keyed wish server own file one (Some bytes) e w =
+    (key_of one.client bytes, ap (λ b. is_key (key_of one.client bytes) one.client b) e ∙ is_key-refl one.client bytes)
+
+alike : (a b : Bool) → (a ≡ true → b ≡ true) → (b ≡ true → a ≡ true) → a ≡ b
+alike true b to from = sym (to refl)
+alike false true to from = absurd (true≢false (sym (from refl)))
+alike false false to from = refl
+
+pub any_wanted : (demand : Demand) (summaries : Summaries) (server : Server) (summary : FileSummary)
+    → StandFor summaries server → SumsUp demand.file.0 server.opens (lease_in summaries) summary
+    → list_any (is_wanted_key summaries demand) (keys_for demand.wish summary).keys
+    ≡ list_any (is_demanded demand server) server.opens
+any_wanted demand summaries server summary stand s = alike _ _
+    (λ some.
+    let found = any_has (is_wanted_key summaries demand) (keys_for demand.wish summary).keys some in
+    let key = found.0 in
+    let parts = and_parts (not (is_own_key demand.own key)) (needs_known demand.wish (record_at summaries key)) found.2 in
+    let w = wants_to demand.wish demand.own demand.file key summaries server summary (record_at summaries key) stand s refl
+    (stand.agree.records key) (member (keys_for demand.wish summary) key found.1) parts.0 parts.1 in
+    has_any (is_demanded demand server) w.one server.opens w.is_there w.is_wanted)
+    (λ some.
+    let found = any_has (is_demanded demand server) server.opens some in
+    let k = keyed demand.wish server demand.own demand.file.0 found.0 (found.0).lease_key refl found.2 in
+    let known = wants_from demand.wish demand.own demand.file k.0 summaries server summary (record_at summaries k.0) found.0
+    stand s refl (stand.agree.records k.0) found.1 k.1 found.2 in
+    has_any (is_wanted_key summaries demand) k.0 (keys_for demand.wish summary).keys
+    (among_members (keys_for demand.wish summary) k.0 known.there)
+    (and_both (not (is_own_key demand.own k.0)) (needs_known demand.wish (record_at summaries k.0)) known.apart known.needs))
+
+pub none_wanted : (demand : Demand) (server : Server) → list_any (is_on demand.file.0) server.opens ≡ false
+    → false ≡ list_any (is_demanded demand server) server.opens
+none_wanted demand server none = sym (not_true (list_any (is_demanded demand server) server.opens) (λ some.
+    let found = any_has (is_demanded demand server) server.opens some in
+    clash (is_on demand.file.0 found.0) (on_file demand.wish server demand.own demand.file.0 found.0 found.2)
+    (none_has (is_on demand.file.0) found.0 server.opens none found.1)))

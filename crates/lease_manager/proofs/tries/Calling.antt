@@ -1,16 +1,25 @@
 -- Calls, as they are told.
 use Rattle.lease_laws.proofs.Words.{◌++◌, ◌==◌, ◌∙◌, ◌∷◌, ◌≡◌, AreInOrder, Bool, Held, Key, List, Open, Out, Progress, Server, ℕ, []}
-use Rattle.lease_laws.proofs.Words.{ap, begun, client_forgotten, disconnected, false, filter, fun_ext}
-use Rattle.lease_laws.proofs.Words.{is_lost, join, joined, key_expired, map, opens_disconnected, opens_dropped, put, refl, sym, true, without}
+use Rattle.lease_laws.proofs.Words.{ap, begun, client_forgotten, false, filter, fun_ext}
+use Rattle.lease_laws.proofs.Words.{join, joined, key_expired, map, opens_dropped, put, refl, sym, true, without}
 use Rattle.lease_laws.proofs.server.Lists.{either}
 use Rattle.manager_model.specs.Decisions.{Decision, told_of}
 use Rattle.manager_model.specs.Handling.{Handling, Manager, Tagged, at_server, ended_between, gone_on, held_in, is_of, is_under}
-use Rattle.manager_model.specs.Handling.{links_lost, lost, taken_back}
+use Rattle.manager_model.specs.Handling.{ends, is_left, left, left_behind, links_lost, lost, opens_left, parts_left, taken_back}
+use Rattle.lease_laws.proofs.Words.{ap₂, is_lost_of, is_named, list_any, parted}
+use Rattle.lease_manager.specs.GivingUp.{extent_of, wish_of}
+use Rattle.lease_manager.specs.LeftOpens.{numbers}
+use Rattle.lease_manager.specs.Wishes.{wants_for}
+use Rattle.lease_manager.specs.declared.values.extent.Extent.{Extent}
+use Rattle.lease_manager.specs.declared.values.extent.Extent.TheVariants as Extents
+use Rattle.lease_laws.proofs.Words.{Option, others_broken, wants_met}
+use Rattle.lease_manager.specs.Parting.{IsParted, is_kept_of}
+use Rattle.lease_manager.specs.declared.tables.parting.Parted.{Parted}
 use Rattle.manager_model.specs.Handling as rules
 use Rattle.lease_manager.proofs.tries.Ending.{ended_by, none_ends}
 use Rattle.lease_manager.specs.LeftOpens.{ids_of}
 use Rattle.lease_manager.specs.Outs.{handling_of, progress_of}
-use Rattle.lease_manager.specs.Table.{Queue, Table, client_gone, manager_of, queue_at, requeued, server_of}
+use Rattle.lease_manager.specs.Table.{Queue, Table, client_gone, manager_of, queue_at, requests_gone, requeued, server_of}
 
 abbrev at_handling : Server → (ℕ → List Tagged) → List Decision → Handling
 at_handling server queues told = record { manager = record { server = server; queues = queues }; told = told }
@@ -57,12 +66,6 @@ without_held client (one ∷ queue) = let later = without_held client queue in e
     (λ t. rw t later)
     (λ t. rw t (ap (λ l. one.held ∷ l) later))
 
-ids_kept : (client : ℕ) (opens : List Open) → ids_of (map (disconnected client) opens) ≡ ids_of opens
-ids_kept client [] = refl
-ids_kept client (one ∷ opens) = let later = ids_kept client opens in either (one.client == client)
-    (λ t. rw t (ap (λ l. one.file_id ∷ l) later))
-    (λ t. rw t (ap (λ l. one.file_id ∷ l) later))
-
 abbrev with_held : Server → ℕ → (ℕ → List Held) → Server
 with_held server client held = record server { present = put server.present client false; held = held }
 
@@ -71,31 +74,81 @@ forgotten_is : (table : Table) (client : ℕ)
 forgotten_is table client = ap (with_held (server_of table) client)
     (fun_ext (λ file. without_held client (queue_at table.queues file)))
 
-pub links_are : (before during middle : Table) (client : ℕ) (test : Open → Bool) → test ≡ is_lost (server_of before) client
-    → progress_of during [] ≡ opens_dropped test (progress_of before [])
-    → progress_of middle [] ≡ opens_disconnected client (progress_of during [])
-    → (client_forgotten client (progress_of middle [])).server ≡ (links_lost (server_of before) client).server
-links_are before during middle client test is first second =
-    ap (λ (p : Progress). (client_forgotten client p).server) (second ∙ ap (opens_disconnected client)
-    (first ∙ ap (λ t. opens_dropped t (begun (server_of before))) is))
+-- the FileIds of those that are disconnected
+ids_parted : (test : Open → Bool) (opens : List Open) → ids_of (map (parted test) opens) ≡ ids_of opens
+ids_parted test [] = refl
+ids_parted test (one ∷ opens) = let later = ids_parted test opens in either (test one)
+    (λ t. rw t (ap (λ l. one.file_id ∷ l) later))
+    (λ t. rw t (ap (λ l. one.file_id ∷ l) later))
 
-pub lost_now : (before during middle after : Table) (told now : List Decision) (ids : List ℕ) (client : ℕ) (test : Open → Bool)
-    → AreInOrder before.opens → ids ≡ ids_of (filter test before.opens) → test ≡ is_lost (server_of before) client
-    → progress_of during [] ≡ opens_dropped test (progress_of before [])
-    → progress_of middle [] ≡ opens_disconnected client (progress_of during [])
+left_ids : (opens : List Open) → map Decision.LeftBehind (ids_of opens) ≡ map (λ (one : Open). Decision.LeftBehind one.file_id) opens
+left_ids [] = refl
+left_ids (one ∷ opens) = ap (λ l. Decision.LeftBehind one.file_id ∷ l) (left_ids opens)
+
+-- what is told of them
+parted_told : (before : Table) (after : Server) (test : Open → Bool) (ids : Parted) (told during now : List Decision)
+    → AreInOrder before.opens → IsParted test (server_of before) ids after
+    → during ≡ told ++ map Decision.Ended (numbers ids.ended.items)
+    → now ≡ during ++ map Decision.LeftBehind (numbers ids.left.items)
+    → now ≡ (told ++ ended_between (server_of before) after) ++ left_behind test (server_of before)
+unfolding left_behind
+parted_told before after test ids told during now order p first second =
+    let lost = is_lost_of (server_of before) test in
+    let opens : ids_of after.opens ≡ ids_of (without lost before.opens) =
+    ap (λ (s : Server). ids_of s.opens) p.server ∙ ids_parted test (without lost before.opens) in
+    second ∙ ap₂ (λ x y. x ++ y)
+    (first ∙ ap (λ more. told ++ more) (ended_by (server_of before) after _ lost order p.ended opens))
+    (ap (map Decision.LeftBehind) p.left ∙ left_ids (filter (is_kept_of (server_of before) test) before.opens))
+
+-- only who is open and connected is told of
+same_ended : (before one other : Server) → one.opens ≡ other.opens → ended_between before one ≡ ended_between before other
+unfolding ended_between
+same_ended before one other same = ap (λ (opens : List Open). map (λ (one : Open). Decision.Ended one.file_id)
+    (without (λ (one : Open). list_any (λ (other : Open). other.file_id == one.file_id) opens) before.opens)) same
+
+pub lost_now : (before middle after : Table) (told during now : List Decision) (ids : Parted) (client : ℕ)
+    → AreInOrder before.opens → IsParted (λ one. one.client == client) (server_of before) ids (server_of middle)
     → middle.queues ≡ before.queues → manager_of after ≡ client_gone client (manager_of middle)
-    → during.opens ≡ without test before.opens → middle.opens ≡ map (disconnected client) during.opens
-    → now ≡ told ++ map Decision.Ended ids → handling_of after now ≡ lost client (handling_of before told)
-lost_now before during middle after told now ids client test order are is first second queues gone closed left said =
-    let links = forgotten_is middle client ∙ links_are before during middle client test is first second in
-    let opens : ids_of (links_lost (server_of before) client).server.opens ≡ ids_of (without test before.opens) =
-    ap (λ (s : Server). ids_of s.opens) (sym links) ∙ (ap ids_of left ∙ (ids_kept client during.opens ∙ ap ids_of closed)) in
+    → during ≡ told ++ map Decision.Ended (numbers ids.ended.items)
+    → now ≡ during ++ map Decision.LeftBehind (numbers ids.left.items)
+    → handling_of after now ≡ lost client (handling_of before told)
+lost_now before middle after told during now ids client order p queues gone first second =
+    let test : Open → Bool = λ one. one.client == client in
+    let links : (client_gone client (manager_of middle)).server ≡ (links_lost (server_of before) client).server =
+    forgotten_is middle client ∙ ap (λ (s : Server). (client_forgotten client (begun s)).server) p.server in
     ap (λ (m : Manager). record { manager = m; told = now }) gone
     ∙ (ap (λ s. at_handling s (λ file. without (is_of client) (queue_at middle.queues file)) now) links
     ∙ (ap (λ (q : List Queue). at_handling (links_lost (server_of before) client).server
     (λ file. without (is_of client) (queue_at q file)) now) queues
     ∙ ap (at_handling (links_lost (server_of before) client).server (λ file. without (is_of client) (queue_at before.queues file)))
-    (closed_told before (links_lost (server_of before) client).server told now ids test order are opens said)))
+    (parted_told before (server_of middle) test ids told during now order p first second
+    ∙ ap (λ more. (told ++ more) ++ left_behind test (server_of before)) (same_ended (server_of before) (server_of middle)
+    (links_lost (server_of before) client).server (ap (λ (s : Server). s.opens) p.server)))))
+
+-- ---- a client that leaves some of its opens
+
+abbrev at_queues : Server → (ℕ → List Tagged) → List Decision → Handling
+at_queues server queues told = record {
+  manager = record { server = record server { held = λ file. held_in (queues file) }; queues = queues };
+  told = told;
+}
+
+pub left_now : (before middle after : Table) (told during now : List Decision) (ids : Parted) (client : ℕ) (file_ids tags : List ℕ)
+    → AreInOrder before.opens → IsParted (is_named client file_ids) (server_of before) ids (server_of middle)
+    → middle.queues ≡ before.queues → manager_of after ≡ requests_gone (is_left client tags) (manager_of middle)
+    → during ≡ told ++ map Decision.Ended (numbers ids.ended.items)
+    → now ≡ during ++ map Decision.LeftBehind (numbers ids.left.items)
+    → handling_of after now ≡ left client file_ids tags (handling_of before told)
+left_now before middle after told during now ids client file_ids tags order p queues gone first second =
+    let test : Open → Bool = is_named client file_ids in
+    ap (λ (m : Manager). record { manager = m; told = now }) gone
+    ∙ (ap (λ (q : List Queue). at_queues (server_of middle) (λ file. without (is_left client tags) (queue_at q file)) now) queues
+    ∙ (ap (λ s. at_queues s (λ file. without (is_left client tags) (queue_at before.queues file)) now) p.server
+    ∙ ap (at_queues (opens_left (server_of before) client file_ids).server
+    (λ file. without (is_left client tags) (queue_at before.queues file)))
+    (parted_told before (server_of middle) test ids told during now order p first second
+    ∙ ap (λ more. (told ++ more) ++ left_behind test (server_of before)) (same_ended (server_of before) (server_of middle)
+    (parts_left (manager_of before) client file_ids tags) (ap (λ (s : Server). s.opens) p.server)))))
 
 -- ---- a request that is taken back
 
@@ -136,3 +189,30 @@ pub cuts_nothing : (manager : Manager) (client : ℕ) → manager.server.present
     → rules.cut manager client ≡ rules.handling manager
 unfolding rules.cut
 cuts_nothing manager client away = rw away refl
+
+pub leaves : (manager : Manager) (client : ℕ) (file_ids tags : List ℕ) → manager.server.present client ≡ true
+    → rules.leave manager client file_ids tags ≡ rules.all_passes (left client file_ids tags (rules.handling manager))
+unfolding rules.leave
+leaves manager client file_ids tags there = rw there refl
+
+pub leaves_nothing : (manager : Manager) (client : ℕ) (file_ids tags : List ℕ) → manager.server.present client ≡ false
+    → rules.leave manager client file_ids tags ≡ rules.handling manager
+unfolding rules.leave
+leaves_nothing manager client file_ids tags away = rw away refl
+
+-- ---- what other keys are to give up
+
+pub broken_now : (before after : Table) (told during now : List Decision) (outs : List Out) (progress : Progress)
+    → progress_of after outs ≡ progress → after.queues ≡ before.queues
+    → during ≡ told ++ ended_between (server_of before) (server_of after) → now ≡ during ++ told_of 0 outs
+    → handling_of after now ≡ gone_on 0 progress (ends progress.server (handling_of before told))
+broken_now before after told during now outs progress is queues first second =
+    ap (λ (q : List Queue). at_handling (server_of after) (queue_at q) now) queues
+    ∙ (ap (at_handling (server_of after) (queue_at before.queues)) (second ∙ ap (λ l. l ++ told_of 0 outs) first)
+    ∙ ap (λ (p : Progress). at_handling p.server (queue_at before.queues)
+    ((told ++ ended_between (server_of before) p.server) ++ told_of 0 p.outs)) is)
+
+pub others_are : (server : Server) (own : Option Key) (file : ℕ) (extent : Extent)
+    → wants_met (wants_for (wish_of extent) server own file) (begun server) ≡ others_broken server own file (extent_of extent)
+others_are server own file Extents.Handles = refl
+others_are server own file Extents.All = refl

@@ -16,7 +16,7 @@ use Rattle.manager_model.specs.Handling.{Manager, Tagged, held_in, is_of, last_f
 use Rattle.manager_model.specs.Hosting.{fresh_manager}
 use Rattle.lease_manager.specs.Queues.{all_without, file_numbers, filed, is_file, queue_in, waiting_or_none}
 use Rattle.lease_manager.specs.Summaries.{file_order}
-use Rattle.lease_manager.specs.Table.{Queue, Table, client_gone, held_at, is_among, manager_of, queue_at, requeued, server_of}
+use Rattle.lease_manager.specs.Table.{Queue, Table, client_gone, held_at, is_among, manager_of, queue_at, requeued, server_of, requests_gone}
 use Rattle.lease_manager.proofs.waits.Counted.{IsQueuePut, Known}
 use Rattle.lease_manager.specs.declared.tables.waiting.Waiting.{Waiting}
 use Rattle.lease_manager.specs.declared.tables.queues.Queues.{Queues}
@@ -297,34 +297,34 @@ pub one_on : (files more left rest all : List FileNo) (file : FileNo) → more �
 one_on files more left rest all file is next so_far = ap (λ l. l ++ rest) is
     ∙ (append_assoc files (file ∷ []) rest ∙ (ap (λ l. files ++ l) (sym next) ∙ so_far))
 
--- ---- a client that is forgotten
+-- ---- requests that are forgotten
 
-forgotten_at : (before after : Queues) (client file : ℕ)
+forgotten_at : (before after : Queues) (test : Tagged → Bool) (file : ℕ)
     → ((other : ℕ) → queue_in after other
-    ≡ (if other == file then without (is_of client) (queue_in before file) else queue_in before other))
-    → queue_in after ≡ put (queue_in before) file (without (is_of client) (queue_in before file))
+    ≡ (if other == file then without test (queue_in before file) else queue_in before other))
+    → queue_in after ≡ put (queue_in before) file (without test (queue_in before file))
 unfolding put
-forgotten_at before after client file changed = fun_ext changed
+forgotten_at before after test file changed = fun_ext changed
 
-pub next_forgotten : (files : List FileNo) (i : ℕ) (file : FileNo) (client : ℕ) (before after : Queues) (whole : ℕ → List Tagged)
+pub next_forgotten : (files : List FileNo) (i : ℕ) (file : FileNo) (test : Tagged → Bool) (before after : Queues) (whole : ℕ → List Tagged)
     → i < length files → file ≡ get_or files i file
     → ((other : ℕ) → queue_in after other
-    ≡ (if other == file.0 then without (is_of client) (queue_in before file.0) else queue_in before other))
-    → all_without client (map (λ f. f.0) (drop i files)) (queue_in before) ≡ whole
-    → all_without client (map (λ f. f.0) (drop (i + 1) files)) (queue_in after) ≡ whole
+    ≡ (if other == file.0 then without test (queue_in before file.0) else queue_in before other))
+    → all_without test (map (λ f. f.0) (drop i files)) (queue_in before) ≡ whole
+    → all_without test (map (λ f. f.0) (drop (i + 1) files)) (queue_in after) ≡ whole
 unfolding all_without
-next_forgotten files i file client before after whole inside is changed so_on =
+next_forgotten files i file test before after whole inside is changed so_on =
     let e : suc i ≡ i + 1 = omega arith in
     let rest : drop i files ≡ file ∷ drop (i + 1) files =
     drop-cons files i file inside ∙ (ap (λ x. x ∷ drop (suc i) files) (sym is) ∙ ap (λ n. file ∷ drop n files) e) in
-    ap (all_without client (map (λ f. f.0) (drop (i + 1) files))) (forgotten_at before after client file.0 changed)
-    ∙ (ap (λ (fs : List FileNo). all_without client (map (λ f. f.0) fs) (queue_in before)) (sym rest) ∙ so_on)
+    ap (all_without test (map (λ f. f.0) (drop (i + 1) files))) (forgotten_at before after test file.0 changed)
+    ∙ (ap (λ (fs : List FileNo). all_without test (map (λ f. f.0) fs) (queue_in before)) (sym rest) ∙ so_on)
 
-pub none_forgotten : (files : List FileNo) (i client : ℕ) (queues : ℕ → List Tagged) (whole : ℕ → List Tagged) → length files ≤ i
-    → all_without client (map (λ f. f.0) (drop i files)) queues ≡ whole → whole ≡ queues
+pub none_forgotten : (files : List FileNo) (i : ℕ) (test : Tagged → Bool) (queues : ℕ → List Tagged) (whole : ℕ → List Tagged) → length files ≤ i
+    → all_without test (map (λ f. f.0) (drop i files)) queues ≡ whole → whole ≡ queues
 unfolding all_without
-none_forgotten files i client queues whole over so_on =
-    sym so_on ∙ ap (λ (fs : List FileNo). all_without client (map (λ f. f.0) fs) queues) (drop_all i files over)
+none_forgotten files i test queues whole over so_on =
+    sym so_on ∙ ap (λ (fs : List FileNo). all_without test (map (λ f. f.0) fs) queues) (drop_all i files over)
 
 without_twice : (test : Tagged → Bool) (queue : List Tagged) → without test (without test queue) ≡ without test queue
 without_twice test [] = refl
@@ -332,34 +332,34 @@ without_twice test (one ∷ queue) = let later = without_twice test queue in eit
     (λ t. rw t later)
     (λ t. rw (t, t) (ap (λ l. one ∷ l) later))
 
--- each queue is on one of the files, or has nothing of the client's
-all_gone : (client : ℕ) (files : List ℕ) (queues : ℕ → List Tagged)
-    → ((n : ℕ) → Among n files ⊎ (without (is_of client) (queues n) ≡ queues n))
-    → (n : ℕ) → all_without client files queues n ≡ without (is_of client) (queues n)
+-- each queue is on one of the files, or has nothing that passes the test
+all_gone : (test : Tagged → Bool) (files : List ℕ) (queues : ℕ → List Tagged)
+    → ((n : ℕ) → Among n files ⊎ (without test (queues n) ≡ queues n))
+    → (n : ℕ) → all_without test files queues n ≡ without test (queues n)
 unfolding all_without put
-all_gone client [] queues covered n = ⊎_elim (λ never. absurd never) (λ same. sym same) (covered n)
-all_gone client (file ∷ files) queues covered n =
-    all_gone client files (put queues file (without (is_of client) (queues file))) (λ m. either (m == file)
-    (λ its. inr (rw its (without_twice (is_of client) (queues file))))
+all_gone test [] queues covered n = ⊎_elim (λ never. absurd never) (λ same. sym same) (covered n)
+all_gone test (file ∷ files) queues covered n =
+    all_gone test files (put queues file (without test (queues file))) (λ m. either (m == file)
+    (λ its. inr (rw its (without_twice test (queues file))))
     (λ off. ⊎_elim
     (λ among. ⊎_elim
     (λ same. absurd (cc (sym ((Decides-eqb m file).1 same) ∙ off)))
     (λ later. inl later) among)
     (λ same. inr (rw off same)) (covered m))) n
     ∙ either (n == file)
-    (λ its. rw its (without_twice (is_of client) (queues file)
-    ∙ ap (λ m. without (is_of client) (queues m)) (sym ((Decides-eqb n file).0 its))))
+    (λ its. rw its (without_twice test (queues file)
+    ∙ ap (λ m. without test (queues m)) (sym ((Decides-eqb n file).0 its))))
     (λ off. rw off refl)
 
-pub client_forgotten_in : (before after : Queues) (files : List FileNo) (client : ℕ) → files ≡ keys before.by_file
-    → all_without client (map (λ f. f.0) files) (queue_in before) ≡ queue_in after
-    → queue_at (filed after) ≡ (λ file. without (is_of client) (queue_at (filed before) file))
-client_forgotten_in before after files client are gone = queues_are after ∙ (sym gone
-    ∙ (fun_ext (all_gone client (map (λ f. f.0) files) (queue_in before) (λ n. ⊎_elim
+pub forgotten_in : (before after : Queues) (files : List FileNo) (test : Tagged → Bool) → files ≡ keys before.by_file
+    → all_without test (map (λ f. f.0) files) (queue_in before) ≡ queue_in after
+    → queue_at (filed after) ≡ (λ file. without test (queue_at (filed before) file))
+forgotten_in before after files test are gone = queues_are after ∙ (sym gone
+    ∙ (fun_ext (all_gone test (map (λ f. f.0) files) (queue_in before) (λ n. ⊎_elim
     (λ among. inl (subst (λ (fs : List FileNo). Among n (map (λ f. f.0) fs)) (sym are) among))
-    (λ none. inr (ap (without (is_of client)) (sym (queue_filed before n) ∙ none)
+    (λ none. inr (ap (without test) (sym (queue_filed before n) ∙ none)
     ∙ sym (sym (queue_filed before n) ∙ none))) (key_or_empty before.by_file.entries n)))
-    ∙ ap (λ (q : ℕ → List Tagged). λ file. without (is_of client) (q file)) (sym (queues_are before))))
+    ∙ ap (λ (q : ℕ → List Tagged). λ file. without test (q file)) (sym (queues_are before))))
 
 abbrev with_clients : Server → (ℕ → List Tagged) → (ℕ → Bool) → Manager
 with_clients server queues present = record {
@@ -374,3 +374,11 @@ pub table_gone : (table : Table) (queues : List Queue) (clients : List ClientNo)
 table_gone table queues clients client is are =
     ap (λ (q : ℕ → List Tagged). with_clients (server_of table) q (is_among clients)) is
     ∙ ap (with_clients (server_of table) (λ file. without (is_of client.0) (queue_at table.queues file))) (fun_ext are)
+
+abbrev at_queues : Server → (ℕ → List Tagged) → Manager
+at_queues server queues = record { server = record server { held = λ file. held_in (queues file) }; queues = queues }
+
+pub table_left : (table : Table) (queues : List Queue) (test : Tagged → Bool)
+    → queue_at queues ≡ (λ file. without test (queue_at table.queues file))
+    → manager_of (record table { queues = queues }) ≡ requests_gone test (manager_of table)
+table_left table queues test is = ap (at_queues (server_of table)) is

@@ -75,8 +75,8 @@ fn file_of_open(tables: &Tables, client: ClientNo, fid: FileId) -> Result<FileNo
     }
 }
 
-// The lane of a request, as it comes.
-fn lane_of(tables: &Tables, client: ClientNo, ask: Ask) -> Lane
+/// The lane of a request, as it comes.
+pub fn lane_of(tables: &Tables, client: ClientNo, ask: Ask) -> Lane
     ensures { lane_like result ≡ lane_of (server_of tables.now) client.0 (request_like ask) }
 {
     match ask {

@@ -140,9 +140,9 @@ fn waits_for(ask: Ask, lease: HeldLease) -> bool
     }
 }
 
-// Meets the wants one after another.
+/// Meets wants one after another, each as far as that can be at once.
 #[tactic(auto, unfolding(lease_model::specs::server::Attempt::wants_met))]
-fn meet_all(
+pub fn meet_all(
     tables: &mut Tables,
     outs: &mut Outs,
     ended: &mut Ended,

@@ -3,7 +3,6 @@ ghost use Rattle.std.specs.Prelude.{true, not, filter, map, IfOk, OnOk, length, 
 ghost use Rattle.std.specs.Prelude.{ℕ, false};
 ghost use Rattle.std.specs.List.{remove, slice_get, list_any};
 ghost use Rattle.lease_laws.specs.server.Laws.{Among, AreInOrder};
-ghost use Rattle.lease_model.specs.server.Calls.{disconnected};
 ghost use Rattle.lease_model.specs.server.Grant.{connected_again};
 ghost use Rattle.lease_model.specs.server.Naming.{key_of_open};
 ghost use Rattle.lease_model.specs.server.Progress.{with_lease, with_opens};
@@ -17,9 +16,10 @@ ghost use Rattle.lease_manager.specs.LeftOpens.{ids_of, numbers};
 ghost use Rattle.lease_manager.specs.Kept.{opened_with, HaveClosed, is_one_of, disconnected_where};
 ghost use Rattle.lease_manager.specs.Leases.{lease_of};
 ghost use Rattle.lease_manager.specs.Summaries.{Agrees, IsAtHome, lease_in};
+ghost use Rattle.lease_manager.specs.Parting.{tag_numbers};
 ghost use Rattle.lease_manager.specs.Queues.{all_without, queue_in};
-ghost use Rattle.lease_manager.specs.Table.{client_gone, is_among, manager_of, queue_at, requeued, server_of};
-ghost use Rattle.manager_model.specs.Handling.{is_under};
+ghost use Rattle.lease_manager.specs.Table.{client_gone, is_among, manager_of, queue_at, requests_gone, requeued, server_of};
+ghost use Rattle.manager_model.specs.Handling.{is_left, is_of, is_under};
 
 use crate::tables::Tables;
 use crate::tables::opens::Opens;
@@ -67,9 +67,9 @@ impl Tables {
     #[tactic(auto)]
     pub fn close(&mut self, closing: Closing) -> Result<Vec<FileId>, Memory>
         ensures closed { OnOk result (server_of self.new ≡ with_opens (server_of self.old)
-            (without (closes closing (server_of self.old).leases) (server_of self.old).opens)) }
+            (without (closes closing) (server_of self.old).opens)) }
         ensures ids { IfOk result (λ ids. numbers ids.items
-            ≡ ids_of (filter (closes closing (server_of self.old).leases) (server_of self.old).opens)) }
+            ≡ ids_of (filter (closes closing) (server_of self.old).opens)) }
         ensures queues { OnOk result (self.new.queues ≡ self.old.queues) }
         ensures in_order { AreInOrder (server_of self.old).opens }
     {
@@ -132,6 +132,22 @@ impl Tables {
         Ok(())
     }
 
+    /// The client's requests under these tags wait no longer, and the client stays connected.
+    ///
+    /// # Errors
+    ///
+    /// `Memory` where there is none left for the list of files; nothing has changed then.
+    pub fn leave(&mut self, client: ClientNo, tags: &[Tag]) -> Result<(), Memory>
+        ensures { OnOk result (manager_of self.new ≡ requests_gone (is_left client.0 (tag_numbers tags.now))
+            (manager_of self.old)) }
+    {
+        let alloc = self.alloc();
+        let files = self.queues.files(alloc)?;
+        self.waiting.clear();
+        leave_queues(&mut self.queues, &files, client, tags);
+        Ok(())
+    }
+
     /// The timer of the key ran out.
     ///
     /// # Errors
@@ -180,30 +196,6 @@ impl Tables {
         }
     }
 
-    /// The client's opens are no longer connected.
-    ///
-    /// # Errors
-    ///
-    /// `Memory` where there is none left for the lists of FileIds; no open is left then, or nothing
-    /// has changed.
-    pub fn disconnect(&mut self, client: ClientNo) -> Result<(), Memory>
-        ensures changed { OnOk result (server_of self.new ≡ record (server_of self.old) {
-          opens = map (disconnected client.0) (server_of self.old).opens;
-        }) }
-        ensures queues { OnOk result (self.new.queues ≡ self.old.queues) }
-    {
-        let alloc = self.alloc();
-        let ids = self.opens.of_client(alloc, client)?;
-        self.waiting.clear();
-        match disconnect_all(&mut self.opens, alloc, &ids) {
-            Ok(()) => Ok(()),
-            Err(memory) => {
-                forget_opens(&mut self.opens, &mut self.summaries, alloc);
-                Err(memory)
-            }
-        }
-    }
-
     /// The open of this FileId is connected again.
     pub fn connect_again(&mut self, fid: FileId)
         ensures changed { server_of self.new ≡ record (server_of self.old) {
@@ -216,9 +208,9 @@ impl Tables {
     }
 }
 
-// No open is left: so a call ends that finds no memory, and after which its manager forgets all.
+/// No open is left: so a call ends that finds no memory, and after which its manager forgets all.
 // docs/DECISIONS.md: "No memory within a call of the server".
-fn forget_opens(opens: &mut Opens, summaries: &mut Summaries, alloc: Global)
+pub fn forget_opens(opens: &mut Opens, summaries: &mut Summaries, alloc: Global)
     ensures opens { opens.new ≡ [] }
     ensures agrees { Agrees summaries.new [] }
 {
@@ -226,8 +218,8 @@ fn forget_opens(opens: &mut Opens, summaries: &mut Summaries, alloc: Global)
     *summaries = Summaries::new(alloc);
 }
 
-// The opens of these FileIds are no longer connected.
-fn disconnect_all(opens: &mut Opens, alloc: Global, ids: &[FileId]) -> Result<(), Memory>
+/// The opens of these FileIds are no longer connected.
+pub fn disconnect_all(opens: &mut Opens, alloc: Global, ids: &[FileId]) -> Result<(), Memory>
     ensures { OnOk result (opens.new ≡ map (disconnected_where (is_one_of (map (λ id. id.0) ids.now))) opens.old) }
 {
     for id in ids {
@@ -236,8 +228,8 @@ fn disconnect_all(opens: &mut Opens, alloc: Global, ids: &[FileId]) -> Result<()
     Ok(())
 }
 
-// Closes the opens of these FileIds.
-fn close_all(opens: &mut Opens, summaries: &mut Summaries, ids: &[FileId])
+/// Closes the opens of these FileIds.
+pub fn close_all(opens: &mut Opens, summaries: &mut Summaries, ids: &[FileId])
     ensures { Agrees summaries.old opens.old
         → HaveClosed opens.old (map (λ id. id.0) ids.now) summaries.old opens.new summaries.new }
 {
@@ -285,10 +277,20 @@ fn add(
 
 // The requests of the client no longer wait on these files.
 fn forget_queues(queues: &mut Queues, files: &[FileNo], client: ClientNo)
-    ensures { all_without client.0 (map (λ file. file.0) files.now) (queue_in queues.old) ≡ queue_in queues.new }
+    ensures { all_without (is_of client.0) (map (λ file. file.0) files.now) (queue_in queues.old) ≡ queue_in queues.new }
 {
     for file in files {
         queues.forget(*file, client);
+    }
+}
+
+// The requests of the client under these tags no longer wait on these files.
+fn leave_queues(queues: &mut Queues, files: &[FileNo], client: ClientNo, tags: &[Tag])
+    ensures { all_without (is_left client.0 (tag_numbers tags.now)) (map (λ file. file.0) files.now) (queue_in queues.old)
+        ≡ queue_in queues.new }
+{
+    for file in files {
+        queues.leave(*file, client, tags);
     }
 }
 

@@ -179,7 +179,7 @@ impl FileSummary {
     {
         match wish {
             Wish::NoWrites => &self.writers,
-            Wish::NoHandles { .. } | Wish::Nothing => &self.keys,
+            Wish::NoHandles { .. } | Wish::AnyHandles | Wish::Nothing => &self.keys,
         }
     }
 }

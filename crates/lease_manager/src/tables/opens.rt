@@ -7,8 +7,9 @@ ghost use Rattle.lease_manager.specs.Closing.{closes};
 ghost use Rattle.lease_model.specs.server.Grant.{connected_again};
 ghost use Rattle.lease_model.specs.server.Attempt.{is_left_open};
 ghost use Rattle.lease_model.specs.server.State.{has_key};
-ghost use Rattle.lease_manager.specs.Filed.{AreFiled, has_id, is_of, connected_at, disconnected_at};
-ghost use Rattle.lease_manager.specs.LeftOpens.{has_key_in};
+ghost use Rattle.lease_manager.specs.Filed.{AreFiled, connected_at, disconnected_at, has_id};
+ghost use Rattle.lease_manager.specs.Parting.{is_connected_named, is_connected_of, is_lasting, is_so, outlives_by};
+ghost use Rattle.lease_manager.specs.LeftOpens.{has_key_in, ids_of, numbers};
 ghost use Rattle.lease_manager.specs.Listing.{open_of};
 ghost use Rattle.lease_manager.specs.Looks.{is_left_by};
 ghost use Rattle.lease_manager.specs.Summaries.{Agrees, IsOneMore, lease_in};
@@ -134,14 +135,14 @@ impl Opens {
     ) -> Result<Vec<FileId>, Memory>
         requires { Agrees leases.now self.now }
         ensures ids { IfOk result (λ ids. map (λ file_id. file_id.0) ids.items
-            ≡ map (λ one. one.file_id) (filter (closes closing.now (lease_in leases.now)) self.now)) }
+            ≡ map (λ one. one.file_id) (filter (closes closing.now) self.now)) }
         ensures in_order { AreInOrder self.now }
     {
         match closing {
-            Closing::Named(fid) => self.closed_at(alloc, *fid, closing, leases),
-            Closing::LeftBehind(fid) => self.closed_at(alloc, *fid, closing, leases),
+            Closing::Named(fid) => self.closed_at(alloc, *fid, closing),
+            Closing::LeftBehind(fid) => self.closed_at(alloc, *fid, closing),
             Closing::LeftOf(key) => self.left_of(alloc, *key, leases),
-            Closing::Of(_) | Closing::LostBy(_) => self.closed_among(alloc, closing, leases),
+            Closing::Of(_) => self.closed_among(alloc, closing),
         }
     }
 
@@ -218,17 +219,16 @@ impl Opens {
         alloc: Global,
         fid: FileId,
         closing: &Closing,
-        leases: &Summaries,
     ) -> Result<Vec<FileId>, Memory>
-        requires { (one : Open) → closes closing.now (lease_in leases.now) one ≡ true → has_id fid.0 one ≡ true }
+        requires { (one : Open) → closes closing.now one ≡ true → has_id fid.0 one ≡ true }
         ensures ids { IfOk result (λ ids. map (λ file_id. file_id.0) ids.items
-            ≡ map (λ one. one.file_id) (filter (closes closing.now (lease_in leases.now)) self.now)) }
+            ≡ map (λ one. one.file_id) (filter (closes closing.now) self.now)) }
         ensures in_order { AreInOrder self.now }
     {
         let mut ids = Vec::new(alloc);
         match self.find(fid) {
             Some(one) => {
-                if !closing.closes(leases, one) {
+                if !closing.closes(one) {
                     return Ok(ids);
                 }
                 ids.push(fid)?;
@@ -239,19 +239,14 @@ impl Opens {
     }
 
     // The same, by a look at all opens.
-    fn closed_among(
-        &self,
-        alloc: Global,
-        closing: &Closing,
-        leases: &Summaries,
-    ) -> Result<Vec<FileId>, Memory>
+    fn closed_among(&self, alloc: Global, closing: &Closing) -> Result<Vec<FileId>, Memory>
         ensures ids { IfOk result (λ ids. map (λ file_id. file_id.0) ids.items
-            ≡ map (λ one. one.file_id) (filter (closes closing.now (lease_in leases.now)) self.now)) }
+            ≡ map (λ one. one.file_id) (filter (closes closing.now) self.now)) }
         ensures in_order { AreInOrder self.now }
     {
         let mut ids = Vec::new(alloc);
         for one in self.by_id.values() {
-            if closing.closes(leases, one) {
+            if closing.closes(one) {
                 ids.push(one.file_id)?;
             }
         }
@@ -274,23 +269,96 @@ impl Opens {
         }
     }
 
-    /// The FileIds of the client's opens.
+    /// The FileIds of the client's connected opens.
     ///
     /// # Errors
     ///
     /// `Memory` where there is none left for the list.
     pub fn of_client(&self, alloc: Global, client: ClientNo) -> Result<Vec<FileId>, Memory>
         ensures ids { IfOk result (λ ids. map (λ file_id. file_id.0) ids.items
-            ≡ map (λ one. one.file_id) (filter (is_of client.0) self.now)) }
+            ≡ map (λ one. one.file_id) (filter (is_connected_of client.0) self.now)) }
         ensures in_order { AreInOrder self.now }
     {
         let mut ids = Vec::new(alloc);
         for one in self.by_id.values() {
-            if one.client == client {
+            if one.client == client && one.connected {
                 ids.push(one.file_id)?;
             }
         }
         Ok(ids)
+    }
+
+    /// Those of the FileIds by which the client has a connected open, each once, in their order.
+    ///
+    /// # Errors
+    ///
+    /// `Memory` where there is none left for them.
+    pub fn named(
+        &self,
+        alloc: Global,
+        client: ClientNo,
+        file_ids: &[FileId],
+    ) -> Result<BTreeSet<FileId>, Memory>
+        ensures ids { IfOk result (λ names. numbers names.keys
+            ≡ ids_of (filter (is_connected_named client.0 (numbers file_ids.now)) self.now)) }
+        ensures in_order { AreInOrder self.now }
+    {
+        // The invariant is known of what is looked at.
+        let _ = &self.by_id;
+        let mut names = BTreeSet::new(alloc);
+        for fid in file_ids {
+            if self.is_connected_of(*fid, client) {
+                names.insert(*fid)?;
+            }
+        }
+        Ok(names)
+    }
+
+    // Whether the open of this FileId is a connected one of the client.
+    fn is_connected_of(&self, fid: FileId, client: ClientNo) -> bool
+        ensures { result ≡ is_so (is_connected_of client.0) self.now fid.0 }
+    {
+        match self.find(fid) {
+            Some(one) => one.client == client && one.connected,
+            None => false,
+        }
+    }
+
+    /// Those of the FileIds whose opens outlive a connection, where these are the leases, or don't.
+    ///
+    /// # Errors
+    ///
+    /// `Memory` where there is none left for the list.
+    pub fn lasting(
+        &self,
+        alloc: Global,
+        named: &[FileId],
+        leases: &Summaries,
+        last: bool,
+    ) -> Result<Vec<FileId>, Memory>
+        ensures ids { IfOk result (λ ids. ids.items
+            ≡ filter (λ (fid : FileId). is_lasting last (is_so (outlives_by (lease_in leases.now)) self.now fid.0)) named.now) }
+        ensures in_order { AreInOrder self.now }
+    {
+        // The invariant is known of what is looked at.
+        let _ = &self.by_id;
+        let mut ids = Vec::new(alloc);
+        for fid in named {
+            if lasts_so(last, self.outlives(*fid, leases)) {
+                ids.push(*fid)?;
+            }
+        }
+        Ok(ids)
+    }
+
+    // Whether the open of this FileId outlives its client's connection.
+    fn outlives(&self, fid: FileId, leases: &Summaries) -> bool
+        ensures { result ≡ is_so (outlives_by (lease_in leases.now)) self.now fid.0 }
+    {
+        match self.find(fid) {
+            Some(one) => one.outlives_connection(leases.under(one)),
+            None => false,
+        }
     }
 
     /// The open of this FileId is no longer connected.
@@ -325,6 +393,13 @@ impl Opens {
             None => {}
         }
     }
+}
+
+// Whether it lasts, or where that is asked, whether it doesn't.
+fn lasts_so(last: bool, outlives: bool) -> bool
+    ensures { result ≡ is_lasting last outlives }
+{
+    if last { outlives } else { !outlives }
 }
 
 // The open of this FileId is connected, or isn't.

@@ -1,8 +1,9 @@
-ghost use Rattle.std.specs.Prelude.{◌≡◌, ◌≤◌, ◌<◌, ◌++◌, [], ◌∷◌, OnOk, OnErr, drop, length};
+ghost use Rattle.std.specs.Prelude.{◌≡◌, ◌==◌, ◌≤◌, ◌<◌, ◌++◌, [], ◌∷◌, OnOk, OnErr, drop, length};
 ghost use Rattle.std.specs.List.{list_any, remove};
 ghost use Rattle.lease_model.specs.values.Lists.{without};
 ghost use Rattle.lease_manager.specs.OneFile.{asks_with};
-ghost use Rattle.manager_model.specs.Handling.{is_of, is_under};
+ghost use Rattle.lease_manager.specs.Parting.{tag_numbers};
+ghost use Rattle.manager_model.specs.Handling.{is_left, is_of, is_under};
 
 use crate::values::number::{ClientNo, Tag};
 use crate::values::open::OpenEntry;
@@ -97,6 +98,15 @@ impl Queue {
         forget_under(&mut self.items, client, tag);
     }
 
+    /// The requests of the client under these tags no longer wait.
+    pub fn leave(&mut self, client: ClientNo, tags: &[Tag])
+        ensures { self.new ≡ without (is_left client.0 (tag_numbers tags.now)) self.old }
+    {
+        let_go(&mut self.items, self.gone);
+        self.gone = 0;
+        leave_under(&mut self.items, client, tags);
+    }
+
     /// Whether a create waits under the key of the open.
     pub fn asks_with(&self, one: &OpenEntry) -> bool
         ensures { result ≡ list_any (λ waiting. asks_with one.now waiting.held) self.now }
@@ -132,4 +142,24 @@ fn forget_under(queue: &mut Vec<Held>, client: ClientNo, tag: Tag)
     ensures { queue.new.items ≡ without (is_under client.0 tag.0) queue.old.items }
 {
     queue.retain(|one| !(one.client == client && one.tag == tag));
+}
+
+// The requests of the client under these tags no longer wait.
+fn leave_under(queue: &mut Vec<Held>, client: ClientNo, tags: &[Tag])
+    ensures { queue.new.items ≡ without (is_left client.0 (tag_numbers tags.now)) queue.old.items }
+{
+    queue.retain(|one| !(one.client == client && is_among(tags, one.tag)));
+}
+
+// Whether the tag is one of these.
+fn is_among(tags: &[Tag], tag: Tag) -> bool
+    ensures { result ≡ list_any (λ other. tag.0 == other) (tag_numbers tags.now) }
+{
+    is_any(tags, tag)
+}
+
+fn is_any(tags: &[Tag], tag: Tag) -> bool
+    ensures { result ≡ list_any (λ other. tag.0 == other.0) tags.now }
+{
+    tags.iter().any(|other| tag == *other)
 }

@@ -5,11 +5,12 @@ ghost use Rattle.lease_laws.specs.server.Laws.{Among};
 ghost use Rattle.lease_model.specs.server.State as state;
 ghost use Rattle.lease_model.specs.values.Lists.{without};
 ghost use Rattle.lease_manager.specs.OneFile.{asks_with};
+ghost use Rattle.lease_manager.specs.Parting.{tag_numbers};
 ghost use Rattle.lease_manager.specs.Queues.{filed, file_numbers, queue_in};
 ghost use Rattle.lease_manager.specs.Table.{held_at, queue_at};
 ghost use Rattle.std.specs.BTreeMap.{keys};
 ghost use Rattle.manager_model.specs.Waiting.{AreWaitingFiles};
-ghost use Rattle.manager_model.specs.Handling.{is_of, is_under};
+ghost use Rattle.manager_model.specs.Handling.{is_left, is_of, is_under};
 
 use crate::tables::queue::Queue;
 use crate::values::number::{ClientNo, FileNo, Tag};
@@ -18,6 +19,8 @@ use crate::values::request::Held;
 use lease_state::Memory;
 use std::alloc::Global;
 use std::collections::BTreeMap;
+
+mod listing;
 
 /// What waits on each file, in order of arrival.
 #[derive(Debug, Drop)]
@@ -135,6 +138,26 @@ impl Queues {
     {
         match self.by_file.get_mut(&file) {
             Some(queue) => queue.withdraw(client, tag),
+            None => {}
+        }
+    }
+
+    /// The requests of the client under these tags no longer wait on the file.
+    pub fn leave(&mut self, file: FileNo, client: ClientNo, tags: &[Tag])
+        ensures { (other : ℕ) → queue_in self.new other ≡ (if other == file.0
+            then without (is_left client.0 (tag_numbers tags.now)) (queue_in self.old file.0) else queue_in self.old other) }
+    {
+        self.left(file, client, tags);
+        self.tidy(file);
+    }
+
+    // The same, and the queue stays, perhaps empty.
+    fn left(&mut self, file: FileNo, client: ClientNo, tags: &[Tag])
+        ensures { (other : ℕ) → queue_in self.new other ≡ (if other == file.0
+            then without (is_left client.0 (tag_numbers tags.now)) (queue_in self.old file.0) else queue_in self.old other) }
+    {
+        match self.by_file.get_mut(&file) {
+            Some(queue) => queue.leave(client, tags),
             None => {}
         }
     }

@@ -35,6 +35,8 @@ use lease_state::{Access, Memory, Share};
 use std::alloc::Global;
 use std::collections::{BTreeMap, BTreeSet};
 
+mod listing;
+
 /// What a manager keeps of a lease: its file, the lease itself, and counts of its opens.
 #[derive(Clone, Copy, Debug)]
 pub struct LeaseRecord {
@@ -362,6 +364,24 @@ impl Summaries {
             }
             None => Ok(Vec::new(alloc)),
         }
+    }
+
+    /// Whether the lease of any key is wanted.
+    pub fn is_any_wanted(&self, demand: &Demand) -> bool
+        ensures { (server : Server) → StandFor self.now server
+            → result ≡ list_any (is_demanded demand.now server) server.opens }
+    {
+        match self.files.get(&demand.file) {
+            Some(summary) => self.is_one_wanted(summary.keys_for(demand.wish), demand),
+            None => false,
+        }
+    }
+
+    // Whether the lease of one of the keys is.
+    fn is_one_wanted(&self, keys: &BTreeSet<LeaseName>, demand: &Demand) -> bool
+        ensures { result ≡ list_any (is_wanted_key self.now demand.now) keys.now.keys }
+    {
+        keys.iter().any(|key| self.is_wanted(*key, demand))
     }
 
     // Those of the keys whose leases are wanted.

@@ -1,3 +1,4 @@
+use crate::values::extent::Extent;
 use crate::values::key::LeaseName;
 use crate::values::number::{ClientNo, FileNo, Tag};
 use crate::values::request::Ask;
@@ -30,5 +31,11 @@ pub enum Coming {
         file: FileNo,
         client: ClientNo,
         tag: Tag,
+    },
+    /// Other keys on a file are to give up what they hold.
+    GivesUp {
+        own: Option<LeaseName>,
+        file: FileNo,
+        extent: Extent,
     },
 }

@@ -79,4 +79,8 @@ pub enum Decision {
     Ended {
         file_id: FileId,
     },
+    /// The open of this FileId waits for its client from now on: its timer is started (MS-SMB2 3.3.7.1).
+    LeftBehind {
+        file_id: FileId,
+    },
 }

@@ -15,6 +15,8 @@ use std::marker::Model;
 pub enum Wish {
     /// Opens that conflict with this access and share are to give up their handles.
     NoHandles { access: Access, share: Share },
+    /// Handles are no longer to be cached.
+    AnyHandles,
     /// Writes are no longer to be cached.
     NoWrites,
     /// Nothing is to be cached any longer.
@@ -27,7 +29,7 @@ impl Wish {
         ensures { state_of result ≡ lowered_for self (state_of state) }
     {
         match self {
-            Wish::NoHandles { .. } => state.without_handle(),
+            Wish::NoHandles { .. } | Wish::AnyHandles => state.without_handle(),
             Wish::NoWrites => state.without_write(),
             Wish::Nothing => LeaseState::NONE,
         }
@@ -42,6 +44,7 @@ impl Wish {
             Wish::NoHandles { access, share } => {
                 known.tally.conflicts(access, share) && state.caches_handles()
             }
+            Wish::AnyHandles => state.caches_handles(),
             Wish::NoWrites => state.caches_writes(),
             Wish::Nothing => state.holds_any(),
         }

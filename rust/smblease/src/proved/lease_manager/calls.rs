@@ -3,11 +3,13 @@
 use crate::proved::lease_manager::outs::Outs;
 use crate::proved::lease_manager::requests::acknowledge::acknowledge as judge;
 use crate::proved::lease_manager::requests::arrival::first_try;
+use crate::proved::lease_manager::requests::giving_up::break_others;
 use crate::proved::lease_manager::requests::passes::try_all;
 use crate::proved::lease_manager::tables::Tables;
 use crate::proved::lease_manager::told::Told;
 use crate::proved::lease_manager::values::closing::Closing;
 use crate::proved::lease_manager::values::coming::Coming;
+use crate::proved::lease_manager::values::extent::Extent;
 use crate::proved::lease_manager::values::key::LeaseName;
 use crate::proved::lease_manager::values::number::{ClientNo, FileNo, Tag};
 use crate::proved::lease_manager::values::request::Ask;
@@ -26,6 +28,7 @@ pub fn handle(tables: &mut Tables, told: &mut Told, coming: Coming) -> Result<()
         Coming::Expires(key) => expire(tables, told, key),
         Coming::Scavenges(fid) => scavenge(tables, told, fid),
         Coming::Withdraws { file, client, tag } => withdraw(tables, told, file, client, tag),
+        Coming::GivesUp { own, file, extent } => give_up(tables, told, own, file, extent),
     }
 }
 
@@ -98,9 +101,10 @@ pub fn cut(tables: &mut Tables, told: &mut Told, client: ClientNo) -> Result<(),
 // The client's opens that don't outlive its connection are closed, the others disconnected, and the connection and its
 // requests that wait are forgotten.
 fn lose(tables: &mut Tables, told: &mut Told, client: ClientNo) -> Result<(), Memory> {
-    let ids = tables.close(Closing::LostBy(client))?;
-    told.ended_all(&ids)?;
-    tables.disconnect(client)?;
+    let named = tables.of_client(client)?;
+    let parted = tables.part(&named)?;
+    told.ended_all(&parted.ended)?;
+    told.left_behind_all(&parted.left)?;
     tables.forget(client)?;
     Ok(())
 }
@@ -151,5 +155,31 @@ pub fn withdraw(tables: &mut Tables, told: &mut Told, file: FileNo, client: Clie
 fn take_back(tables: &mut Tables, told: &mut Told, file: FileNo, client: ClientNo, tag: Tag) -> Result<(), Memory> {
     tables.withdraw(file, client, tag);
     told.withdrawn(client, tag)?;
+    Ok(())
+}
+
+/// A client leaves some of its opens, and requests that wait, and stays connected.
+pub fn leave(tables: &mut Tables, told: &mut Told, client: ClientNo, file_ids: &[FileId], tags: &[Tag]) -> Result<(), Memory> {
+    if tables.is_present(client) {
+        let_go(tables, told, client, file_ids, tags)?;
+        try_all(tables, told)?;
+    }
+    Ok(())
+}
+
+// Of these opens those that don't outlive a connection are closed, and the others disconnected, and these requests are forgotten.
+fn let_go(tables: &mut Tables, told: &mut Told, client: ClientNo, file_ids: &[FileId], tags: &[Tag]) -> Result<(), Memory> {
+    let named = tables.named(client, file_ids)?;
+    let parted = tables.part(&named)?;
+    told.ended_all(&parted.ended)?;
+    told.left_behind_all(&parted.left)?;
+    tables.leave(client, tags)?;
+    Ok(())
+}
+
+/// Other keys on a file give up what they hold.
+pub fn give_up(tables: &mut Tables, told: &mut Told, own: Option<LeaseName>, file: FileNo, extent: Extent) -> Result<(), Memory> {
+    break_others(tables, told, own, file, extent)?;
+    try_all(tables, told)?;
     Ok(())
 }

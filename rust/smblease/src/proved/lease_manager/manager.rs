@@ -2,11 +2,12 @@
 
 use std::prelude::Vec;
 
-use crate::proved::lease_manager::calls;
+use crate::proved::lease_manager::keeping::{ended, first_tables, handle, join, leave};
 use crate::proved::lease_manager::tables::Tables;
 use crate::proved::lease_manager::told::Told;
 use crate::proved::lease_manager::values::coming::Coming;
 use crate::proved::lease_manager::values::decision::Decision;
+use crate::proved::lease_manager::values::extent::Extent;
 use crate::proved::lease_manager::values::key::LeaseName;
 use crate::proved::lease_manager::values::lease::HeldLease;
 use crate::proved::lease_manager::values::number::{ClientNo, FileNo, Tag};
@@ -15,6 +16,10 @@ use crate::proved::lease_manager::values::request::Ask;
 use crate::proved::lease_state::{FileId, LeaseKey, LeaseState, Memory, Rules};
 use std::alloc::Global;
 use std::mem;
+
+mod always;
+mod listings;
+mod questions;
 
 /// A manager of leases: the opens, the leases and the requests that wait for a break, of files that its host keeps.
 #[derive(Debug)]
@@ -32,7 +37,7 @@ impl Manager {
     /// A manager as by `new`, of a host whose files have the numbers from 1 to this one: a create of any other is refused with
     /// `ObjectNameNotFound` (MS-SMB2 3.3.5.9). Allocates nothing.
     pub fn with_files(alloc: Global, rules: Rules, files: FileNo) -> Manager {
-        Manager { tables: Tables::new(alloc, rules, files) }
+        Manager { tables: first_tables(alloc, rules, files) }
     }
 
     /// The rules that the manager was given.
@@ -45,21 +50,13 @@ impl Manager {
         self.tables.files()
     }
 
-    // A call came to this. Where memory ran out all is forgotten but the rules and the last number of a file, which are these.
-    fn ended(&mut self, came: Result<(), Memory>, rules: Rules, files: FileNo) -> Result<(), Memory> {
-        if came.is_err() {
-            self.tables = Tables::new(self.tables.alloc(), rules, files);
-        }
-        came
-    }
-
     // Something comes, and what is decided is on the list afterwards.
     fn call(&mut self, coming: Coming, decisions: &mut Vec<Decision>) -> Result<(), Memory> {
         let (rules, files) = (self.rules(), self.files());
         let mut told = Told::over(taken_out(decisions));
-        let came = calls::handle(&mut self.tables, &mut told, coming);
+        let came = handle(&mut self.tables, &mut told, coming);
         *decisions = told.into_vec();
-        self.ended(came, rules, files)
+        ended(&mut self.tables, came, rules, files)
     }
 
     /// A client connects (MS-SMB2 3.3.5.1). The keys of its leases whose timer ran out may be granted states again
@@ -71,8 +68,8 @@ impl Manager {
     /// rules and files then, as a new one.
     pub fn join(&mut self, client: ClientNo) -> Result<(), Memory> {
         let (rules, files) = (self.rules(), self.files());
-        let came = calls::join(&mut self.tables, client);
-        self.ended(came, rules, files)
+        let came = join(&mut self.tables, client);
+        ended(&mut self.tables, came, rules, files)
     }
 
     /// A client asks something of a file, under a tag under which nothing of it waits (MS-SMB2 3.3.5). It is refused at once
@@ -130,6 +127,52 @@ impl Manager {
     /// files then, as a new one, and the list has nothing of worth.
     pub fn cut(&mut self, client: ClientNo, decisions: &mut Vec<Decision>) -> Result<(), Memory> {
         self.call(Coming::IsCut(client), decisions)
+    }
+
+    /// A client leaves these of its opens, and what it asked under these tags and waits: the connection or the session that made
+    /// them goes, and the client stays, by another one (own; MS-SMB2 3.3.5.6, 3.3.7.1). Each open stays or ends as it would were
+    /// the client cut: a decision says which. Of the requests none is told. What waits otherwise is tried again. FileIds and tags
+    /// that aren't the client's are passed over. The decisions are on the list afterwards, whatever was there. Where the client
+    /// isn't connected there is none, and nothing changes.
+    ///
+    /// # Errors
+    ///
+    /// `Memory` where there is none left, and never where the client isn't connected. The manager has forgotten all but its rules and
+    /// files then, as a new one, and the list has nothing of worth.
+    pub fn leave(
+        &mut self,
+        client: ClientNo,
+        file_ids: &[FileId],
+        tags: &[Tag],
+        decisions: &mut Vec<Decision>,
+    ) -> Result<(), Memory> {
+        let (rules, files) = (self.rules(), self.files());
+        let mut told = Told::over(taken_out(decisions));
+        let came = leave(&mut self.tables, &mut told, client, file_ids, tags);
+        *decisions = told.into_vec();
+        ended(&mut self.tables, came, rules, files)
+    }
+
+    /// Other keys on a file than this one of the client's give up handles, or all that they cache; with no key each gives up (own).
+    /// So a host changes, locks, renames or removes a file where no open of a client asks it: it calls this, sends what is told, and
+    /// goes on at once where `is_given_up` says so, before anything else; else it calls this again after an acknowledgment, a close,
+    /// a cut or a timer. Each lease is broken once, straight to what is left of it (MS-SMB2 3.3.4.7), and opens of these keys that
+    /// wait for their clients end. Then what waits is tried again. The decisions are on the list afterwards, whatever was there.
+    ///
+    /// # Errors
+    ///
+    /// `Memory` where there is none left. The manager has forgotten all but its rules and files then, as a new one, and the list has
+    /// nothing of worth.
+    pub fn give_up(
+        &mut self,
+        client: ClientNo,
+        key: Option<LeaseKey>,
+        file: FileNo,
+        extent: Extent,
+        decisions: &mut Vec<Decision>,
+    ) -> Result<(), Memory> {
+        let own = own_key(client, key);
+        self.call(Coming::GivesUp { own, file, extent }, decisions)
     }
 
     /// The timer of a lease break runs out (MS-SMB2 3.3.6.5): the opens of the client's lease of this key end, and the key is
@@ -200,6 +243,12 @@ impl Manager {
     /// has another key than this one of the client's. With no key every open on the file has another one.
     pub fn allowed(&self, client: ClientNo, key: Option<LeaseKey>, file: FileNo, want: LeaseState) -> LeaseState {
         self.tables.allowed(own_key(client, key), file, want)
+    }
+
+    /// Whether no other key on the file than this one of the client's holds handles, or is in the way of a change: one that caches
+    /// writes is, and one that caches anything and isn't breaking to nothing (own). With no key each other key counts.
+    pub fn is_given_up(&self, client: ClientNo, key: Option<LeaseKey>, file: FileNo, extent: Extent) -> bool {
+        self.tables.is_given_up(own_key(client, key), file, extent)
     }
 
     /// Whether there is an open of this FileId, connected or not.

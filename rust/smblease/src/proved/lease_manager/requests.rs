@@ -7,6 +7,8 @@ pub mod answer;
 pub mod arrival;
 pub mod attempt;
 pub mod finding;
+pub mod giving_up;
 pub mod grant;
 pub mod passes;
+pub mod question;
 pub mod trial;

@@ -66,6 +66,18 @@ impl Told {
         Ok(())
     }
 
+    /// The opens of these FileIds wait for their clients from now on.
+    pub fn left_behind_all(&mut self, ids: &[FileId]) -> Result<(), Memory> {
+        for id in ids {
+            self.left_behind(*id)?;
+        }
+        Ok(())
+    }
+
+    fn left_behind(&mut self, file_id: FileId) -> Result<(), Memory> {
+        self.push(Decision::LeftBehind { file_id })
+    }
+
     /// The decisions of what was given out for the request under the tag.
     pub fn tell(&mut self, tag: Tag, outs: &Outs) -> Result<(), Memory> {
         for out in outs.items() {

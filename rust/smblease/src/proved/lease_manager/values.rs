@@ -5,8 +5,10 @@
 pub mod closing;
 pub mod coming;
 pub mod decision;
+pub mod extent;
 pub mod key;
 pub mod lease;
+pub mod listed;
 pub mod number;
 pub mod open;
 pub mod out;

@@ -104,6 +104,7 @@ impl Host {
             Decision::Waits { .. } => Ok(()),
             Decision::Withdrawn { .. } => Ok(()),
             Decision::Ended { .. } => Ok(()),
+            Decision::LeftBehind { .. } => Ok(()),
         }
     }
 

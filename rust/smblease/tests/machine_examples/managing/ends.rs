@@ -18,7 +18,7 @@ fn an_open_that_was_left_ends_when_its_handle_is_wanted() {
         let mut told = Vec::new(alloc);
         manager.ask(ONE, Tag(10), create(KEY, 7, true), &mut told)?;
         manager.cut(ONE, &mut told)?;
-        assert!(told.is_empty());
+        assert!(gave(&told, &[Decision::LeftBehind { file_id: FileId(1) }]));
         assert!(manager.has_left_behind(FileId(1)) && !manager.is_connected(ONE));
         assert_eq!(manager.kept(ONE, FILE), Some(FileId(1)));
         manager.ask(TWO, Tag(20), create(LATER_KEY, 7, false), &mut told)?;

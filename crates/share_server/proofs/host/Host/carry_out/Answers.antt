@@ -86,3 +86,6 @@ returns-in-Withdrawn c = rw (c.in-Withdrawn.is) (noted _ c.args.self.now c.args.
 
 pub returns-in-Ended : goal.returns-in-Ended
 returns-in-Ended c = rw (c.in-Ended.is) (noted _ c.args.self.now c.args.outs.now c.args.outs.now refl)
+
+pub returns-in-LeftBehind : goal.returns-in-LeftBehind
+returns-in-LeftBehind c = rw (c.in-LeftBehind.is) (noted _ c.args.self.now c.args.outs.now c.args.outs.now refl)

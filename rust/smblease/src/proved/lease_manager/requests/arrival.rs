@@ -50,8 +50,8 @@ fn file_of_open(tables: &Tables, client: ClientNo, fid: FileId) -> Result<FileNo
     }
 }
 
-// The lane of a request, as it comes.
-fn lane_of(tables: &Tables, client: ClientNo, ask: Ask) -> Lane {
+/// The lane of a request, as it comes.
+pub fn lane_of(tables: &Tables, client: ClientNo, ask: Ask) -> Lane {
     match ask {
         Ask::Create { ask, .. } => lane_under(ask.lease),
         Ask::Read { fid } => tables.lane_of_open(client, fid),

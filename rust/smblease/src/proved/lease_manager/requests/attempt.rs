@@ -81,8 +81,8 @@ fn waits_for(ask: Ask, lease: HeldLease) -> bool {
     }
 }
 
-// Meets the wants one after another.
-fn meet_all(tables: &mut Tables, outs: &mut Outs, ended: &mut Ended, wants: &[Want]) -> Result<(), Memory> {
+/// Meets wants one after another, each as far as that can be at once.
+pub fn meet_all(tables: &mut Tables, outs: &mut Outs, ended: &mut Ended, wants: &[Want]) -> Result<(), Memory> {
     for want in wants {
         meet(tables, outs, ended, want)?;
     }

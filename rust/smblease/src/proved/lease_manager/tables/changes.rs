@@ -89,6 +89,19 @@ impl Tables {
         Ok(())
     }
 
+    /// The client's requests under these tags wait no longer, and the client stays connected.
+    ///
+    /// # Errors
+    ///
+    /// `Memory` where there is none left for the list of files; nothing has changed then.
+    pub fn leave(&mut self, client: ClientNo, tags: &[Tag]) -> Result<(), Memory> {
+        let alloc = self.alloc();
+        let files = self.queues.files(alloc)?;
+        self.waiting.clear();
+        leave_queues(&mut self.queues, &files, client, tags);
+        Ok(())
+    }
+
     /// The timer of the key ran out.
     ///
     /// # Errors
@@ -124,25 +137,6 @@ impl Tables {
         }
     }
 
-    /// The client's opens are no longer connected.
-    ///
-    /// # Errors
-    ///
-    /// `Memory` where there is none left for the lists of FileIds; no open is left then, or nothing
-    /// has changed.
-    pub fn disconnect(&mut self, client: ClientNo) -> Result<(), Memory> {
-        let alloc = self.alloc();
-        let ids = self.opens.of_client(alloc, client)?;
-        self.waiting.clear();
-        match disconnect_all(&mut self.opens, alloc, &ids) {
-            Ok(()) => Ok(()),
-            Err(memory) => {
-                forget_opens(&mut self.opens, &mut self.summaries, alloc);
-                Err(memory)
-            }
-        }
-    }
-
     /// The open of this FileId is connected again.
     pub fn connect_again(&mut self, fid: FileId) {
         self.waiting.clear();
@@ -150,23 +144,23 @@ impl Tables {
     }
 }
 
-// No open is left: so a call ends that finds no memory, and after which its manager forgets all.
+/// No open is left: so a call ends that finds no memory, and after which its manager forgets all.
 // docs/DECISIONS.md: "No memory within a call of the server".
-fn forget_opens(opens: &mut Opens, summaries: &mut Summaries, alloc: Global) {
+pub fn forget_opens(opens: &mut Opens, summaries: &mut Summaries, alloc: Global) {
     *opens = Opens::new(alloc);
     *summaries = Summaries::new(alloc);
 }
 
-// The opens of these FileIds are no longer connected.
-fn disconnect_all(opens: &mut Opens, alloc: Global, ids: &[FileId]) -> Result<(), Memory> {
+/// The opens of these FileIds are no longer connected.
+pub fn disconnect_all(opens: &mut Opens, alloc: Global, ids: &[FileId]) -> Result<(), Memory> {
     for id in ids {
         opens.disconnect(alloc, *id)?;
     }
     Ok(())
 }
 
-// Closes the opens of these FileIds.
-fn close_all(opens: &mut Opens, summaries: &mut Summaries, ids: &[FileId]) {
+/// Closes the opens of these FileIds.
+pub fn close_all(opens: &mut Opens, summaries: &mut Summaries, ids: &[FileId]) {
     for id in ids {
         close_one(opens, summaries, *id);
     }
@@ -191,6 +185,13 @@ fn add(opens: &mut Opens, summaries: &mut Summaries, alloc: Global, one: OpenEnt
 fn forget_queues(queues: &mut Queues, files: &[FileNo], client: ClientNo) {
     for file in files {
         queues.forget(*file, client);
+    }
+}
+
+// The requests of the client under these tags no longer wait on these files.
+fn leave_queues(queues: &mut Queues, files: &[FileNo], client: ClientNo, tags: &[Tag]) {
+    for file in files {
+        queues.leave(*file, client, tags);
     }
 }
 

@@ -142,7 +142,7 @@ impl FileSummary {
     pub fn keys_for(&self, wish: Wish) -> &BTreeSet<LeaseName> {
         match wish {
             Wish::NoWrites => &self.writers,
-            Wish::NoHandles { .. } | Wish::Nothing => &self.keys,
+            Wish::NoHandles { .. } | Wish::AnyHandles | Wish::Nothing => &self.keys,
         }
     }
 }

@@ -77,10 +77,10 @@ impl Opens {
     /// `Memory` where there is none left for the list.
     pub fn closed(&self, alloc: Global, closing: &Closing, leases: &Summaries) -> Result<Vec<FileId>, Memory> {
         match closing {
-            Closing::Named(fid) => self.closed_at(alloc, *fid, closing, leases),
-            Closing::LeftBehind(fid) => self.closed_at(alloc, *fid, closing, leases),
+            Closing::Named(fid) => self.closed_at(alloc, *fid, closing),
+            Closing::LeftBehind(fid) => self.closed_at(alloc, *fid, closing),
             Closing::LeftOf(key) => self.left_of(alloc, *key, leases),
-            Closing::Of(_) | Closing::LostBy(_) => self.closed_among(alloc, closing, leases),
+            Closing::Of(_) => self.closed_among(alloc, closing),
         }
     }
 
@@ -129,11 +129,11 @@ impl Opens {
     }
 
     // The same, where only the open of this FileId can be closed.
-    fn closed_at(&self, alloc: Global, fid: FileId, closing: &Closing, leases: &Summaries) -> Result<Vec<FileId>, Memory> {
+    fn closed_at(&self, alloc: Global, fid: FileId, closing: &Closing) -> Result<Vec<FileId>, Memory> {
         let mut ids = Vec::new(alloc);
         match self.find(fid) {
             Some(one) => {
-                if !closing.closes(leases, one) {
+                if !closing.closes(one) {
                     return Ok(ids);
                 }
                 ids.push(fid)?;
@@ -144,10 +144,10 @@ impl Opens {
     }
 
     // The same, by a look at all opens.
-    fn closed_among(&self, alloc: Global, closing: &Closing, leases: &Summaries) -> Result<Vec<FileId>, Memory> {
+    fn closed_among(&self, alloc: Global, closing: &Closing) -> Result<Vec<FileId>, Memory> {
         let mut ids = Vec::new(alloc);
         for one in self.by_id.values() {
-            if closing.closes(leases, one) {
+            if closing.closes(one) {
                 ids.push(one.file_id)?;
             }
         }
@@ -165,7 +165,7 @@ impl Opens {
         }
     }
 
-    /// The FileIds of the client's opens.
+    /// The FileIds of the client's connected opens.
     ///
     /// # Errors
     ///
@@ -173,11 +173,61 @@ impl Opens {
     pub fn of_client(&self, alloc: Global, client: ClientNo) -> Result<Vec<FileId>, Memory> {
         let mut ids = Vec::new(alloc);
         for one in self.by_id.values() {
-            if one.client == client {
+            if one.client == client && one.connected {
                 ids.push(one.file_id)?;
             }
         }
         Ok(ids)
+    }
+
+    /// Those of the FileIds by which the client has a connected open, each once, in their order.
+    ///
+    /// # Errors
+    ///
+    /// `Memory` where there is none left for them.
+    pub fn named(&self, alloc: Global, client: ClientNo, file_ids: &[FileId]) -> Result<BTreeSet<FileId>, Memory> {
+        // The invariant is known of what is looked at.
+        let _ = &self.by_id;
+        let mut names = BTreeSet::new(alloc);
+        for fid in file_ids {
+            if self.is_connected_of(*fid, client) {
+                names.insert(*fid)?;
+            }
+        }
+        Ok(names)
+    }
+
+    // Whether the open of this FileId is a connected one of the client.
+    fn is_connected_of(&self, fid: FileId, client: ClientNo) -> bool {
+        match self.find(fid) {
+            Some(one) => one.client == client && one.connected,
+            None => false,
+        }
+    }
+
+    /// Those of the FileIds whose opens outlive a connection, where these are the leases, or don't.
+    ///
+    /// # Errors
+    ///
+    /// `Memory` where there is none left for the list.
+    pub fn lasting(&self, alloc: Global, named: &[FileId], leases: &Summaries, last: bool) -> Result<Vec<FileId>, Memory> {
+        // The invariant is known of what is looked at.
+        let _ = &self.by_id;
+        let mut ids = Vec::new(alloc);
+        for fid in named {
+            if lasts_so(last, self.outlives(*fid, leases)) {
+                ids.push(*fid)?;
+            }
+        }
+        Ok(ids)
+    }
+
+    // Whether the open of this FileId outlives its client's connection.
+    fn outlives(&self, fid: FileId, leases: &Summaries) -> bool {
+        match self.find(fid) {
+            Some(one) => one.outlives_connection(leases.under(one)),
+            None => false,
+        }
     }
 
     /// The open of this FileId is no longer connected.
@@ -208,6 +258,11 @@ impl Opens {
             None => {}
         }
     }
+}
+
+// Whether it lasts, or where that is asked, whether it doesn't.
+fn lasts_so(last: bool, outlives: bool) -> bool {
+    if last { outlives } else { !outlives }
 }
 
 // The open of this FileId is connected, or isn't.

@@ -66,6 +66,13 @@ impl Queue {
         forget_under(&mut self.items, client, tag);
     }
 
+    /// The requests of the client under these tags no longer wait.
+    pub fn leave(&mut self, client: ClientNo, tags: &[Tag]) {
+        let_go(&mut self.items, self.gone);
+        self.gone = 0;
+        leave_under(&mut self.items, client, tags);
+    }
+
     /// Whether a create waits under the key of the open.
     pub fn asks_with(&self, one: &OpenEntry) -> bool {
         one_asks_with(self.as_slice(), one)
@@ -90,4 +97,18 @@ fn forget_of(queue: &mut Vec<Held>, client: ClientNo) {
 // The requests of the client under the tag no longer wait.
 fn forget_under(queue: &mut Vec<Held>, client: ClientNo, tag: Tag) {
     queue.retain(|one| !(one.client == client && one.tag == tag));
+}
+
+// The requests of the client under these tags no longer wait.
+fn leave_under(queue: &mut Vec<Held>, client: ClientNo, tags: &[Tag]) {
+    queue.retain(|one| !(one.client == client && is_among(tags, one.tag)));
+}
+
+// Whether the tag is one of these.
+fn is_among(tags: &[Tag], tag: Tag) -> bool {
+    is_any(tags, tag)
+}
+
+fn is_any(tags: &[Tag], tag: Tag) -> bool {
+    tags.iter().any(|other| tag == *other)
 }

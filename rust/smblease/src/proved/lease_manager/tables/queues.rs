@@ -10,6 +10,8 @@ use crate::proved::lease_state::Memory;
 use std::alloc::Global;
 use std::collections::BTreeMap;
 
+mod listing;
+
 /// What waits on each file, in order of arrival.
 #[derive(Debug)]
 pub struct Queues {
@@ -93,6 +95,20 @@ impl Queues {
     fn withdrawn(&mut self, file: FileNo, client: ClientNo, tag: Tag) {
         match self.by_file.get_mut(&file) {
             Some(queue) => queue.withdraw(client, tag),
+            None => {}
+        }
+    }
+
+    /// The requests of the client under these tags no longer wait on the file.
+    pub fn leave(&mut self, file: FileNo, client: ClientNo, tags: &[Tag]) {
+        self.left(file, client, tags);
+        self.tidy(file);
+    }
+
+    // The same, and the queue stays, perhaps empty.
+    fn left(&mut self, file: FileNo, client: ClientNo, tags: &[Tag]) {
+        match self.by_file.get_mut(&file) {
+            Some(queue) => queue.leave(client, tags),
             None => {}
         }
     }

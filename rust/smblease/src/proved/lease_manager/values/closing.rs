@@ -1,8 +1,6 @@
 // Made by tools/plain_rust from crates/lease_manager/src/values/closing.rt. Changes belong there.
 
-use crate::proved::lease_manager::tables::summaries::Summaries;
 use crate::proved::lease_manager::values::key::LeaseName;
-use crate::proved::lease_manager::values::number::ClientNo;
 use crate::proved::lease_manager::values::open::OpenEntry;
 use crate::proved::lease_state::FileId;
 
@@ -17,19 +15,16 @@ pub enum Closing {
     Of(LeaseName),
     /// Those of the key whose clients are away (profile).
     LeftOf(LeaseName),
-    /// The connected ones of the client that don't outlive its connection (3.3.7.1).
-    LostBy(ClientNo),
 }
 
 impl Closing {
-    /// Whether the open, which stands under this lease, is one of them.
-    pub fn closes(&self, leases: &Summaries, one: &OpenEntry) -> bool {
+    /// Whether the open is one of them.
+    pub fn closes(&self, one: &OpenEntry) -> bool {
         match self {
             Closing::Named(fid) => one.file_id == *fid,
             Closing::LeftBehind(fid) => one.is_left_behind(*fid),
             Closing::Of(key) => one.has_key(*key),
             Closing::LeftOf(key) => one.is_left_open(*key),
-            Closing::LostBy(client) => one.client == *client && one.connected && !one.outlives_connection(leases.under(one)),
         }
     }
 }

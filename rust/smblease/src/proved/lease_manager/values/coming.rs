@@ -1,5 +1,6 @@
 // Made by tools/plain_rust from crates/lease_manager/src/values/coming.rt. Changes belong there.
 
+use crate::proved::lease_manager::values::extent::Extent;
 use crate::proved::lease_manager::values::key::LeaseName;
 use crate::proved::lease_manager::values::number::{ClientNo, FileNo, Tag};
 use crate::proved::lease_manager::values::request::Ask;
@@ -22,4 +23,6 @@ pub enum Coming {
     Scavenges(FileId),
     /// A request that waits is taken back.
     Withdraws { file: FileNo, client: ClientNo, tag: Tag },
+    /// Other keys on a file are to give up what they hold.
+    GivesUp { own: Option<LeaseName>, file: FileNo, extent: Extent },
 }

@@ -48,4 +48,6 @@ pub enum Decision {
     NotAcknowledged { client: ClientNo, status: Status },
     /// The open of this FileId is no more, though its client didn't close it (profile).
     Ended { file_id: FileId },
+    /// The open of this FileId waits for its client from now on: its timer is started (MS-SMB2 3.3.7.1).
+    LeftBehind { file_id: FileId },
 }

@@ -11,6 +11,8 @@ use crate::proved::lease_state::{Access, LeaseState, Share};
 pub enum Wish {
     /// Opens that conflict with this access and share are to give up their handles.
     NoHandles { access: Access, share: Share },
+    /// Handles are no longer to be cached.
+    AnyHandles,
     /// Writes are no longer to be cached.
     NoWrites,
     /// Nothing is to be cached any longer.
@@ -21,7 +23,7 @@ impl Wish {
     /// What a state is lowered to.
     pub fn lowered(self, state: LeaseState) -> LeaseState {
         match self {
-            Wish::NoHandles { .. } => state.without_handle(),
+            Wish::NoHandles { .. } | Wish::AnyHandles => state.without_handle(),
             Wish::NoWrites => state.without_write(),
             Wish::Nothing => LeaseState::NONE,
         }
@@ -32,6 +34,7 @@ impl Wish {
         let state = known.lease.state;
         match self {
             Wish::NoHandles { access, share } => known.tally.conflicts(access, share) && state.caches_handles(),
+            Wish::AnyHandles => state.caches_handles(),
             Wish::NoWrites => state.caches_writes(),
             Wish::Nothing => state.holds_any(),
         }

@@ -1,0 +1,8 @@
+use Rattle.lease_laws.proofs.Words.{◌∙◌}
+use Rattle.lease_manager.specs.Table.{server_of}
+use Rattle.lease_manager.proofs.follows.Questions.{writes_by}
+use Rattle.lease_manager.proofs.tables.Tables.writes_at_once.Goals as goal
+
+pub returns-in-Some : goal.returns-in-Some
+returns-in-Some c = c.is_write_due.ensures
+    ∙ writes_by (server_of c.args.self.now) c.args.client.0 c.args.fid.0 c.in-Some.one.now c.in-Some.ensures
