@@ -36,7 +36,8 @@
  *   until its break is acknowledged, the lease breaks anew, or smblease_manager_run_out is called with it.
  * - Had client 2 taken its CREATE back by a CANCEL, smblease_manager_withdraw would give WITHDRAWN for tag 20,
  *   which the host answers with STATUS_CANCELLED. Had its connection been lost, smblease_manager_cut would
- *   give no decision for tag 20: the host forgets what it kept of that client.
+ *   give no decision for tag 20: the host forgets what it kept of that client. It would give ENDED for each open
+ *   that goes with the connection, and LEFT_BEHIND for each that waits for the client, whose timer the host starts.
  *
  * The order of the decisions is an order of effects. A host carries out each one before it goes on to the
  * next, and those of one call before it makes another call. So where files are written asynchronously, a
@@ -47,15 +48,24 @@
  * before client 2 came. Client 2 goes on reading what the file no longer has. Where a write fails on the
  * disk, the host answers with the failure, and nothing has to be taken back.
  *
- * What the manager has no call for goes by calls that are there. Each may cost a break more.
+ * What is done to a file without a READ or a WRITE goes by smblease_manager_give_up. The host calls it, carries out
+ * the decisions, and asks smblease_manager_given_up. Where that is 1 it goes on at once, before any other call; else it
+ * keeps what it wants to do, and does both again once an acknowledgment, a close, a cut or a timer was decided about.
  *
- * - Overwriting, truncating, or locking bytes of a file: ask for a write by an open that may write, and do it
- *   where GOES_ON comes. Before that all others are sent breaks of all that they cache. Where the open may only
- *   read, the host takes an open of a client of its own, which writes, and closes it afterwards.
- * - Renaming or removing a file: ask for a create that shares nothing (SMBLEASE_NO_USE), under the lease key
- *   of the open that it comes by and with the state 0, so that this one gives up nothing. All others that have
- *   it open give up the handles that they cache. Go on when it is decided: that it is refused for sharing
- *   doesn't matter, and an open that it makes is closed at once.
+ * - Truncating a file, locking bytes of it, changing it from outside SMB: with the extent ALL, and the key of the open that
+ *   it comes by, which gives up nothing, or none. Each other lease is broken once, straight to nothing.
+ * - A CREATE that overwrites: with the extent ALL and the key that it asks with, before smblease_manager_create, where the
+ *   create would not conflict.
+ * - Renaming or removing a file, or changing its disposition: with the extent HANDLES. Who has the file open without
+ *   caching its handle keeps it open; what waited for its client to come back ends.
+ *
+ * An open that asks for no access to data (its attributes, say) is none of the manager's: the host opens it without a call,
+ * and grants it nothing. SMB2 LOGOFF, and the loss of one of several connections of a client: smblease_manager_leave with the
+ * opens and the tags that went with it; the last connection's loss is a cut. TREE_DISCONNECT closes the opens of the tree. A
+ * BREAKS goes by a connection of the client that has an open under the key, else by any. Of what one request ends and
+ * breaks, ENDED come first, by FileId; of a cut or a leave, before LEFT_BEHIND. Access rights map to reading and writing of
+ * data (FILE_READ_DATA and FILE_EXECUTE; FILE_WRITE_DATA and FILE_APPEND_DATA); delete access is the host's own matter.
+ * A create with has_reconnect is judged by FileId, file, client and key alone; what else it asks for is passed over.
  *
  * Memory: calls allocate with the program's malloc and realloc. Where memory runs out within a call of the
  * first part below, the manager is lost: it is freed with all that it knew, the handle is {0}, and the call
@@ -125,6 +135,27 @@ uint32_t smblease_manager_acknowledge_malformed(struct smblease_manager *manager
    decided and the manager is never lost. Allocates. DONE, LOST or NONE. */
 uint32_t smblease_manager_withdraw(struct smblease_manager *manager, uint64_t client, uint64_t tag, uint64_t file);
 
+/* A client leaves these of its opens, and what it asked under these tags and waits: the connection or the session that
+   had them goes, and the client stays, by another one (profile; 3.3.5.6, 3.3.7.1). Each open ends or waits for the client, as by a
+   cut, and a decision says which; of the requests none says anything. What isn't the client's, and an open that waits for it
+   already, are passed over. Where the client isn't connected nothing changes, nothing is decided and the manager is never lost. Either list may be empty, and NULL then.
+   Allocates. DONE, NO_MEMORY, LOST or NONE; where it is NO_MEMORY nothing changed. */
+uint32_t smblease_manager_leave(struct smblease_manager *manager, uint64_t client, const uint64_t *file_ids,
+                                size_t file_id_count, const uint64_t *tags, size_t tag_count);
+
+/* What other keys on a file are to give up. */
+enum smblease_manager_extent {
+    /* handle caching */
+    SMBLEASE_EXTENT_HANDLES = 1,
+    /* all that is cached */
+    SMBLEASE_EXTENT_ALL = 2
+};
+
+/* Other keys on the file than this one of the client's give up as much (enum smblease_manager_extent); with no key each does
+   (profile). Allocates. DONE, LOST, NONE, or NO_SUCH where the extent stands for nothing: then nothing changed. */
+uint32_t smblease_manager_give_up(struct smblease_manager *manager, uint64_t client, const struct smblease_maybe_key *key,
+                                  uint64_t file, uint32_t extent);
+
 /* ---- What is decided ---- */
 
 enum smblease_manager_decision_kind {
@@ -151,7 +182,9 @@ enum smblease_manager_decision_kind {
     /* The acknowledgment is answered with the status. client, status */
     SMBLEASE_DECISION_NOT_ACKNOWLEDGED = 9,
     /* The open is no more, though its client didn't close it: the host lets go of its handle. file_id */
-    SMBLEASE_DECISION_ENDED = 10
+    SMBLEASE_DECISION_ENDED = 10,
+    /* The open waits for its client from now on: the host starts its timer (3.3.6.2). file_id */
+    SMBLEASE_DECISION_LEFT_BEHIND = 11
 };
 
 /* What the host is to do. What has no meaning for the kind is 0. */
@@ -194,9 +227,19 @@ uint32_t smblease_manager_breaking(struct smblease_manager *manager, uint64_t cl
 uint32_t smblease_manager_waiting(struct smblease_manager *manager, uint64_t client, uint64_t tag, uint64_t file);
 uint32_t smblease_manager_left_behind(struct smblease_manager *manager, uint64_t file_id);
 uint32_t smblease_manager_has_open(struct smblease_manager *manager, uint64_t file_id);
+/* 1 where a read, or a write within what the host allows of a file, by this FileId of the client would be done at once and
+   break nothing: the host may do it then, before any other call, without one; and else 0. */
+uint32_t smblease_manager_may_read(struct smblease_manager *manager, uint64_t client, uint64_t file_id);
+uint32_t smblease_manager_may_write(struct smblease_manager *manager, uint64_t client, uint64_t file_id);
+/* 1 where no other key on the file than this one of the client's is in the way (enum smblease_manager_extent): none holds
+   handles; or none caches writes, or anything without being broken to nothing. Else 0, also where the extent stands for
+   nothing. */
+uint32_t smblease_manager_given_up(struct smblease_manager *manager, uint64_t client, const struct smblease_maybe_key *key,
+                                   uint64_t file, uint32_t extent);
 /* How many opens there are, those that wait for their clients too. */
 size_t smblease_manager_open_count(struct smblease_manager *manager);
-/* What may be granted of the state that is wanted: the bits of LeaseState. */
+/* What may be granted of the state that is wanted: the bits of LeaseState. Whether the key is expired, or its lease breaking,
+   isn't looked at. */
 uint32_t smblease_manager_allowed(struct smblease_manager *manager, uint64_t client, const struct smblease_maybe_key *key,
                                   uint64_t file, uint32_t want);
 /* The client's oldest durable open on the file that waits for it. DONE, NONE, or NO_SUCH where there is none;

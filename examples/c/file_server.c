@@ -16,7 +16,7 @@ enum kind { NOTHING, OPEN, READ, WRITE, TRUNCATE, CLOSE };
 /* What is to be done when the request under a tag goes on. */
 struct request { enum kind kind; uint64_t client, tag, file, file_id, offset, length; char text[TEXT]; };
 /* What stands behind a FileId: a descriptor of its own, which is closed when the open is gone. */
-struct opened { uint64_t file_id, client, file; int descriptor, is_timed; };
+struct opened { uint64_t file_id, file; int descriptor, is_timed; };
 static char names[MOST][NAME]; /* a file's number is its place here, from 1 */
 static struct request waiting[MOST];
 static struct opened opens[MOST];
@@ -150,7 +150,7 @@ static const char *state_word(uint32_t state) {
 
 static void show(const struct smblease_manager_decision *it) {
     static const char *const kinds[] = {"", "opened", "goes-on", "closed", "refused", "waits", "withdrawn", "breaks",
-                                        "acknowledged", "not-acknowledged", "ended"};
+                                        "acknowledged", "not-acknowledged", "ended", "left-behind"};
     printf("%s", kinds[it->kind]);
     if (it->client) printf(" client %" PRIu64, it->client);
     if (it->tag) printf(" tag %" PRIu64, it->tag);
@@ -168,9 +168,15 @@ static void answer_create(uint64_t file_id, const struct request *one) {
     struct opened *has = opened_as(file_id);
     if (!has) {
         has = opened_as(0);
-        *has = (struct opened){file_id, one->client, one->file, descriptor_of(one->file), 0};
+        *has = (struct opened){file_id, one->file, descriptor_of(one->file), 0};
     }
     has->is_timed = 0;
+}
+
+/* A server with a clock starts one of so many seconds here (3.3.6.2). */
+static void start_timer(struct opened *one) {
+    one->is_timed = 1;
+    printf("  timer of id %" PRIu64 "\n", one->file_id);
 }
 
 static void carry_out(const struct smblease_manager_decision *it) {
@@ -181,6 +187,7 @@ static void carry_out(const struct smblease_manager_decision *it) {
     case SMBLEASE_DECISION_GOES_ON: go_on(one); break;
     case SMBLEASE_DECISION_CLOSED: let_go(opened_as(one->file_id)); break;
     case SMBLEASE_DECISION_ENDED: let_go(opened_as(it->file_id)); break;
+    case SMBLEASE_DECISION_LEFT_BEHIND: start_timer(opened_as(it->file_id)); break;
     default: break; /* the others are answers, and breaks, whose timers a server with a clock starts by their numbers */
     }
     if (one && it->kind != SMBLEASE_DECISION_WAITS) one->kind = NOTHING;
@@ -272,17 +279,12 @@ static void cancel(const struct step *step) {
 /* join CLIENT */
 static void join(const struct step *step) { after(smblease_manager_join(&manager, number(step, 0))); }
 
-/* cut CLIENT: nobody waits for its answers any longer, and its opens that stay get a timer. */
+/* cut CLIENT: nobody waits for its answers any longer. */
 static void cut(const struct step *step) {
     uint64_t client = number(step, 0);
     after(smblease_manager_cut(&manager, client));
-    for (size_t k = 0; k < MOST; k++) {
+    for (size_t k = 0; k < MOST; k++)
         if (waiting[k].client == client) waiting[k].kind = NOTHING;
-        if (opens[k].file_id && opens[k].client == client && smblease_manager_left_behind(&manager, opens[k].file_id)) {
-            opens[k].is_timed = 1;
-            printf("  timer of id %" PRIu64 "\n", opens[k].file_id);
-        }
-    }
 }
 
 /* break-timer NUMBER: where the break has ended, the manager decides nothing. */

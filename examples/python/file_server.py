@@ -6,8 +6,8 @@ import re
 from dataclasses import dataclass, field
 
 from smblease import Manager
-from smblease.manager_decisions import (Acknowledged, Breaks, Closed, Decision, Decisions, Ended, GoesOn, NotAcknowledged, Opened,
-                                        Refused, Waits)
+from smblease.manager_decisions import (Acknowledged, Breaks, Closed, Decision, Decisions, Ended, GoesOn, LeftBehind,
+                                        NotAcknowledged, Opened, Refused, Waits)
 
 
 @dataclass
@@ -26,7 +26,6 @@ class Request:
 class Handle:
     """What stands behind a FileId: a descriptor of its own, which is closed when the open is gone."""
 
-    client: int
     file: str
     descriptor: int
     is_timed: bool = False
@@ -86,20 +85,23 @@ class FileServer:
         else:
             os.truncate(descriptor, request.length)
 
-    def answer_create(self, file_id: int, request: Request, client: int) -> None:
+    def answer_create(self, file_id: int, request: Request) -> None:
         """There is a new open, or one that was left behind is its client's again."""
         if file_id not in self.handles:
-            self.handles[file_id] = Handle(client, request.file, self.descriptor_of(request.file))
+            self.handles[file_id] = Handle(request.file, self.descriptor_of(request.file))
         self.handles[file_id].is_timed = False
 
     def carry_out(self, decision: Decision) -> None:
         show(decision)
         if isinstance(decision, Ended):
             os.close(self.handles.pop(decision.file_id).descriptor)
+        elif isinstance(decision, LeftBehind):
+            self.handles[decision.file_id].is_timed = True
+            print(f"  timer of id {decision.file_id}")
         elif not isinstance(decision, (Breaks, Waits, Acknowledged, NotAcknowledged)):
             request = self.waiting.pop((decision.client, decision.tag))
             if isinstance(decision, Opened):
-                self.answer_create(decision.file_id, request, decision.client)
+                self.answer_create(decision.file_id, request)
             elif isinstance(decision, GoesOn):
                 self.go_on(request)
             elif isinstance(decision, Closed):
@@ -113,13 +115,9 @@ class FileServer:
     # ---- what else happens ----
 
     def cut(self, client: int) -> None:
-        """Nobody waits for the client's answers any longer, and its opens that stay get a timer."""
+        """Nobody waits for the client's answers any longer."""
         self.after(self.manager.cut(client))
         self.waiting = {it: request for it, request in self.waiting.items() if it[0] != client}
-        for file_id, handle in self.handles.items():
-            if handle.client == client and self.manager.left_behind(file_id):
-                handle.is_timed = True
-                print(f"  timer of id {file_id}")
 
     def cancel(self, client: int, tag: int) -> None:
         request = self.waiting.get((client, tag))

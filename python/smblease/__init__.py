@@ -13,7 +13,7 @@ from smblease.requests import AcknowledgeRequest, CloseRequest, CreateRequest, R
 from smblease.server import Server
 from smblease.steps import (Answer, Believes, CachedRead, Done, Failed, FileBytes, Note, Quiet, Refusal, Refused, Settled,
                             Settlement, Step, Waiting, Wrote)
-from smblease.values import (Access, LeaseState, Order, Rise, Rules, Share, Status, granted_form, is_within,
+from smblease.values import (Access, Extent, LeaseState, Order, Rise, Rules, Share, Status, granted_form, is_within,
                              needs_acknowledgment, opens_conflict)
 from smblease.version import VERSION
 
@@ -21,8 +21,8 @@ __version__ = VERSION
 __all__ = [
     "Access", "AcknowledgeDone", "AcknowledgeFailed", "AcknowledgeRequest", "Acknowledgment", "Answer", "Believes", "Break",
     "CachedRead", "Changed", "Client", "Closed", "CloseFailed", "CloseRequest", "Context", "CreateAnswer", "CreateAsk",
-    "CreateFailed", "CreateRequest", "Created", "Done", "Failed", "Fault", "FileBytes", "HeldLease", "LeaseState", "ListedOpen",
-    "MachineLost", "Manager", "MessageKind", "Note", "Notification", "Opened", "Order", "Out", "Quiet", "ReadDone",
+    "CreateFailed", "CreateRequest", "Created", "Done", "Extent", "Failed", "Fault", "FileBytes", "HeldLease", "LeaseState",
+    "ListedOpen", "MachineLost", "Manager", "MessageKind", "Note", "Notification", "Opened", "Order", "Out", "Quiet", "ReadDone",
     "ReadFailed", "ReadRequest", "Refusal", "Refused", "Reply", "Request", "Response", "Rise", "Rules", "Sent", "Server",
     "Settled", "Settlement", "Share", "Status", "Step", "Waiting", "WriteDone", "WriteFailed", "WriteRequest", "Wrote",
     "append_context", "each_context", "find_context", "granted_form", "is_within", "lease_key", "needs_acknowledgment",

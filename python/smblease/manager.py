@@ -7,7 +7,7 @@ from __future__ import annotations
 
 import ctypes
 import uuid
-from typing import Callable
+from typing import Any, Callable, Optional, Sequence
 
 from smblease import _structs as structs
 from smblease._arguments import LONG, are_longs, key_field, number
@@ -15,13 +15,19 @@ from smblease._handles import Outcome
 from smblease._library import in_words, library
 from smblease.contexts import NO_ASK, CreateAsk, ask_struct
 from smblease.manager_decisions import Decision, Decisions, decision_of
-from smblease.manager_questions import ManagerQuestions, key_struct
+from smblease.manager_questions import ManagerQuestions, key_struct, maybe_key_struct
 from smblease.messages import Acknowledgment
-from smblease.values import Access, LeaseState, Order, Rise, Rules, Share
+from smblease.values import Access, Extent, LeaseState, Order, Rise, Rules, Share
 
 _create, _read, _write, _close = map(in_words, ("manager_create", "manager_read", "manager_write", "manager_close"))
 _decision_count, _read_decision = in_words("manager_decision_count"), in_words("manager_decision_at")
 _NOTHING_ASKED = ask_struct(NO_ASK)
+
+
+def _longs(values: Sequence[int], name: str) -> Any:
+    """Numbers of 64 bits as an array, or None of none."""
+    given = [number(value, LONG, name) for value in values]
+    return (ctypes.c_uint64 * len(given))(*given) if given else None
 
 
 class Manager(ManagerQuestions):
@@ -87,12 +93,27 @@ class Manager(ManagerQuestions):
         self._decided(library.smblease_manager_join, self._reference, number(client, LONG, "client"))
 
     def cut(self, client: int) -> Decisions:
-        """A client's connection is lost (3.3.7.1). Nothing is decided of its requests that wait.
+        """A client's connection is lost (3.3.7.1). Each of its opens ends or waits for it. Nothing is decided of its requests
+        that wait.
 
         >>> Manager().cut(1)
         ()
         """
         return self._decided(library.smblease_manager_cut, self._reference, number(client, LONG, "client"))
+
+    def leave(self, client: int, file_ids: Sequence[int], tags: Sequence[int] = ()) -> Decisions:
+        """A client leaves these of its opens, and what it asked under these tags and waits: the connection or the session that
+        had them goes, and the client stays (3.3.5.6). What isn't the client's is passed over. Where MemoryError is raised,
+        nothing changed.
+
+        >>> manager = Manager()
+        >>> manager.join(1)
+        >>> [opened] = manager.create(1, 10, 5, Access.READ, Share.READ)
+        >>> manager.leave(1, [opened.file_id])
+        (Ended(file_id=1),)
+        """
+        return self._decided(library.smblease_manager_leave, self._reference, number(client, LONG, "client"),
+                             _longs(file_ids, "file_id"), len(file_ids), _longs(tags, "tag"), len(tags))
 
     def run_out(self, timer: int) -> Decisions:
         """The timer of a break runs out (3.3.6.5), by the number that it was told with. A timer need not be stopped: where its
@@ -188,3 +209,18 @@ class Manager(ManagerQuestions):
         """
         return self._decided(library.smblease_manager_withdraw, self._reference, number(client, LONG, "client"),
                              number(tag, LONG, "tag"), number(file, LONG, "file"))
+
+    def give_up(self, client: int, key: Optional[uuid.UUID], file: int, extent: Extent) -> Decisions:
+        """Other keys on the file than this one of the client's give up as much; with no key each does (own). The host asks
+        `given_up` then.
+
+        >>> manager = Manager()
+        >>> manager.join(1)
+        >>> ask = CreateAsk(uuid.UUID(int=1), LeaseState.of("RWH"))
+        >>> [opened] = manager.create(1, 10, 5, Access.READ, Share.READ, ask)
+        >>> [breaks] = manager.give_up(2, None, 5, Extent.HANDLES)
+        >>> str(breaks.notification.new), manager.given_up(2, None, 5, Extent.HANDLES)
+        ('RW', False)
+        """
+        return self._decided(library.smblease_manager_give_up, self._reference, number(client, LONG, "client"),
+                             ctypes.byref(maybe_key_struct(key)), number(file, LONG, "file"), Extent(extent).value)

@@ -14,8 +14,8 @@ from smblease.contexts import NOTHING_GRANTED, CreateAnswer
 from smblease.messages import Notification, Response
 from smblease.values import LeaseState
 
-__all__ = ["Acknowledged", "Breaks", "Closed", "Decision", "Decisions", "Ended", "GoesOn", "NotAcknowledged", "Opened", "Refused",
-           "Waits", "Withdrawn"]
+__all__ = ["Acknowledged", "Breaks", "Closed", "Decision", "Decisions", "Ended", "GoesOn", "LeftBehind", "NotAcknowledged",
+           "Opened", "Refused", "Waits", "Withdrawn"]
 
 
 @dataclass(frozen=True)
@@ -145,7 +145,18 @@ class Ended:
     file_id: int
 
 
-Decision = Union[Opened, GoesOn, Closed, Refused, Waits, Withdrawn, Breaks, Acknowledged, NotAcknowledged, Ended]
+@dataclass(frozen=True)
+class LeftBehind:
+    """The open waits for its client from now on: the host starts its timer (3.3.6.2).
+
+    >>> LeftBehind(file_id=7).file_id
+    7
+    """
+
+    file_id: int
+
+
+Decision = Union[Opened, GoesOn, Closed, Refused, Waits, Withdrawn, Breaks, Acknowledged, NotAcknowledged, Ended, LeftBehind]
 Decisions = Tuple[Decision, ...]
 
 
@@ -177,7 +188,7 @@ _KINDS: Dict[int, Callable[[_Fields], Decision]] = {
     1: _opened, 2: lambda has: GoesOn(has[0], has[1]), 3: lambda has: Closed(has[0], has[1]),
     4: lambda has: Refused(has[0], has[1], has[5]), 5: lambda has: Waits(has[0], has[1]),
     6: lambda has: Withdrawn(has[0], has[1]), 7: _breaks, 8: _acknowledged,
-    9: lambda has: NotAcknowledged(has[0], has[5]), 10: lambda has: Ended(has[2]),
+    9: lambda has: NotAcknowledged(has[0], has[5]), 10: lambda has: Ended(has[2]), 11: lambda has: LeftBehind(has[2]),
 }
 
 

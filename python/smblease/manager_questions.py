@@ -10,7 +10,7 @@ from smblease import _structs as structs
 from smblease._arguments import LONG, key_field, key_octets, key_of, number
 from smblease._handles import Handle, Outcome
 from smblease._library import library
-from smblease.values import Access, LeaseState, Share
+from smblease.values import Access, Extent, LeaseState, Share
 
 
 @dataclass(frozen=True)
@@ -50,6 +50,15 @@ def key_struct(key: uuid.UUID) -> structs.Key:
     1
     """
     return structs.Key.from_buffer_copy(key_octets(key))
+
+
+def maybe_key_struct(key: Optional[uuid.UUID]) -> structs.MaybeKey:
+    """A key that a call is given, or that it isn't.
+
+    >>> maybe_key_struct(None).has_key
+    0
+    """
+    return structs.MaybeKey() if key is None else structs.MaybeKey(key_field(key), 1)
 
 
 def _open(has: Any) -> ListedOpen:
@@ -117,6 +126,37 @@ class ManagerQuestions(Handle[structs.Manager]):
         """
         return bool(self._asked(library.smblease_manager_has_open, number(file_id, LONG, "file_id")))
 
+    def may_read(self, client: int, file_id: int) -> bool:
+        """Whether a read by a client's open would be done at once: its host may do it then, before any other call, without one.
+
+        >>> from smblease import Manager
+        >>> Manager().may_read(1, 1)
+        False
+        """
+        return bool(self._asked(library.smblease_manager_may_read, number(client, LONG, "client"),
+                                number(file_id, LONG, "file_id")))
+
+    def may_write(self, client: int, file_id: int) -> bool:
+        """Whether a write that fits, by a client's open, would be done at once and break nothing: as may_read.
+
+        >>> from smblease import Manager
+        >>> Manager().may_write(1, 1)
+        False
+        """
+        return bool(self._asked(library.smblease_manager_may_write, number(client, LONG, "client"),
+                                number(file_id, LONG, "file_id")))
+
+    def given_up(self, client: int, key: Optional[uuid.UUID], file: int, extent: Extent) -> bool:
+        """Whether no key on the file but this one of the client's is in the way: none holds handles (HANDLES); none caches
+        writes, or caches anything without being broken to nothing (ALL).
+
+        >>> from smblease import Manager
+        >>> Manager().given_up(1, None, 5, Extent.ALL)
+        True
+        """
+        return bool(self._asked(library.smblease_manager_given_up, number(client, LONG, "client"),
+                                ctypes.byref(maybe_key_struct(key)), number(file, LONG, "file"), Extent(extent).value))
+
     def open_count(self) -> int:
         """How many opens there are, those that wait for their clients too.
 
@@ -127,15 +167,14 @@ class ManagerQuestions(Handle[structs.Manager]):
         return self._asked(library.smblease_manager_open_count)
 
     def allowed(self, client: int, key: Optional[uuid.UUID], file: int, want: LeaseState) -> LeaseState:
-        """What may be granted to a client of the state that it wants.
+        """What may be granted to a client of the state that it wants. Whether the key is expired isn't looked at.
 
         >>> from smblease import Manager
         >>> str(Manager().allowed(1, None, 5, LeaseState.of("RWH")))
         'RWH'
         """
-        maybe = structs.MaybeKey() if key is None else structs.MaybeKey(key_field(key), 1)
-        return LeaseState(self._asked(library.smblease_manager_allowed, number(client, LONG, "client"), ctypes.byref(maybe),
-                                      number(file, LONG, "file"), LeaseState(want).value))
+        return LeaseState(self._asked(library.smblease_manager_allowed, number(client, LONG, "client"),
+                                      ctypes.byref(maybe_key_struct(key)), number(file, LONG, "file"), LeaseState(want).value))
 
     def kept(self, client: int, file: int) -> Optional[int]:
         """The FileId of a client's oldest durable open on a file that waits for it, or None where there is none.

@@ -124,6 +124,17 @@ def is_within(state: LeaseState, other: LeaseState) -> bool:
     return bool(library.smblease_is_within(LeaseState(state).value, LeaseState(other).value))
 
 
+class Extent(enum.Enum):
+    """What other keys on a file are to give up: the handles that they cache, or all that they cache.
+
+    >>> Extent.ALL
+    <Extent.ALL: 2>
+    """
+
+    HANDLES = 1
+    ALL = 2
+
+
 class Order(enum.Enum):
     """Which requests of one client on one file wait for one another: all, or those under one lease key or by one FileId.
 

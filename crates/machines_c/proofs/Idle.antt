@@ -31,6 +31,11 @@ pub none_cut : (manager : Manager) (client : ℕ) → is_absent client manager �
 unfolding rules.cut
 none_cut manager client idle = rw (is_not (manager.server.present client) idle) refl
 
+pub none_left : (manager : Manager) (client : ℕ) (file_ids tags : List ℕ) → is_absent client manager ≡ true
+    → (rules.leave manager client file_ids tags).told ≡ []
+unfolding rules.leave
+none_left manager client file_ids tags idle = rw (is_not (manager.server.present client) idle) refl
+
 pub none_expired : (manager : Manager) (key : Key) → not (queries.breaking manager.server key) ≡ true
     → (rules.expire manager key).told ≡ []
 unfolding rules.expire

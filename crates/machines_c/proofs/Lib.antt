@@ -3,6 +3,7 @@ pub mod FilesHandles
 pub mod Held
 pub mod Holding
 pub mod Idle
+pub mod Lists
 pub mod LooseValues
 pub mod ManagerHandles
 pub mod ServerHandles

@@ -4,8 +4,10 @@
 pub mod calls;
 pub mod coming;
 pub mod decision;
+pub mod giving_up;
 pub mod handle;
 pub mod leases;
+pub mod leaving;
 pub mod listing;
 pub mod managing;
 pub mod numbering;

@@ -1,8 +1,10 @@
 -- What comes to a manager: what a call of it comes to, and whether it does nothing.
-use Rattle.std.specs.Prelude.{◌≡◌, Bool, true, Some, None}
+use Rattle.std.specs.Prelude.{◌≡◌, Bool, true, false, Some, None}
+use Rattle.std.specs.Option.{option_map}
 use Rattle.break_timers.specs.Timers.{timers_of}
 use Rattle.lease_state.specs.State.{state_of}
-use Rattle.lease_model.specs.server.Naming.{key_of}
+use Rattle.lease_model.specs.server.Naming.{key_of, key_under}
+use Rattle.lease_manager.specs.GivingUp.{extent_of}
 use Rattle.lease_manager.specs.Requests.{request_like}
 use Rattle.lease_manager.specs.Table.{manager_of}
 use Rattle.manager_model.specs.Handling as rules
@@ -23,6 +25,8 @@ Came (coming.Expires client key) old new = Expired (key_of client.0 key.0) old n
 Came (coming.RunsOut number) old new = RunOut number.0 old new
 Came (coming.Scavenges fid) old new = Handled (λ one. rules.scavenge one fid.0) old new
 Came (coming.Withdraws file client tag) old new = Handled (λ one. rules.withdraw one file.0 client.0 tag.0) old new
+Came (coming.GivesUp client key file extent) old new = Handled (λ one. rules.give_up one
+    (key_under client.0 (option_map (λ bytes. bytes.0) key)) file.0 (extent_of extent)) old new
 
 abbrev pub is_idle : Coming → Managing → Bool
 is_idle (coming.Joins client) old = is_present client.0 (manager_of old.manager)
@@ -34,6 +38,7 @@ is_idle (coming.Expires client key) old = is_settled client.0 key.0 (manager_of 
 is_idle (coming.RunsOut number) old = is_over number.0 (timers_of old.timers) (manager_of old.manager)
 is_idle (coming.Scavenges fid) old = is_gone fid.0 (manager_of old.manager)
 is_idle (coming.Withdraws file client tag) old = is_answered client.0 tag.0 file.0 (manager_of old.manager)
+is_idle (coming.GivesUp client key file extent) old = false
 
 -- Where a call does nothing, the manager is never lost.
 abbrev pub MayBeLostBy : Coming → Managing → Type 0

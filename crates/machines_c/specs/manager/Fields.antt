@@ -61,6 +61,7 @@ decision_fields (Decision.Acknowledged client given) =
     record (of_kind 8 client 0) { key = given.key; state = bits_of_state given.state }
 decision_fields (Decision.NotAcknowledged client status) = record (of_kind 9 client 0) { status = code_of status }
 decision_fields (Decision.Ended file_id) = record (of_kind 10 0 0) { file_id = file_id }
+decision_fields (Decision.LeftBehind file_id) = record (of_kind 11 0 0) { file_id = file_id }
 
 -- the number of the timer that a decision starts
 abbrev pub number_field : Option ℕ → ℕ

@@ -1,6 +1,9 @@
 ghost use Rattle.std.specs.Prelude.{◌≡◌};
+ghost use Rattle.std.specs.Option.{option_map};
+ghost use Rattle.lease_manager.specs.GivingUp.{extent_of};
 ghost use Rattle.machines_c.specs.handles.Codes as codes;
 
+use lease_manager::Extent;
 use lease_state::{Access, Share, Status};
 
 /// The access that a number stands for (profile): 1 for reading, plus 2 for writing.
@@ -43,5 +46,16 @@ pub fn status_of(code: u32) -> Status
         0xC000_00D0 => Status::RequestNotAccepted,
         0xC000_0128 => Status::FileClosed,
         _ => Status::Unsuccessful,
+    }
+}
+
+/// What a number says that other keys are to give up (own): 1 for handles, 2 for all that they cache.
+pub fn extent_of(number: u32) -> Option<Extent>
+    ensures { option_map extent_of result ≡ codes.extent_given number }
+{
+    match number {
+        1 => Some(Extent::Handles),
+        2 => Some(Extent::All),
+        _ => None,
     }
 }

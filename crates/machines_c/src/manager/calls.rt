@@ -19,7 +19,12 @@ use std::alloc::Global;
 
 impl ManagerHandle {
     // What a call came to is held from now on; where it ran out of memory nothing is.
-    fn keep(&mut self, alloc: Global, managing: Box<Managing>, came: Result<(), Memory>) -> Outcome
+    pub(crate) fn keep(
+        &mut self,
+        alloc: Global,
+        managing: Box<Managing>,
+        came: Result<(), Memory>,
+    ) -> Outcome
         requires { self.old.held ≡ None }
         ensures { MatchResult came (λ _. (self.new.held ≡ Some managing.value) × (result ≡ outcomes.Done))
             (λ _. (self.new.held ≡ None) × (result ≡ outcomes.Lost)) }

@@ -1,5 +1,5 @@
 use break_timers::BreakNo;
-use lease_manager::{Ask, ClientNo, FileNo, Tag};
+use lease_manager::{Ask, ClientNo, Extent, FileNo, Tag};
 use lease_state::{FileId, LeaseKey, LeaseState};
 
 /// What comes to a manager.
@@ -23,4 +23,6 @@ pub enum Coming {
     Scavenges(FileId),
     /// A request that waits on the file is taken back.
     Withdraws(FileNo, ClientNo, Tag),
+    /// Other keys on a file than this one of the client's, or all, are to give up what they hold.
+    GivesUp(ClientNo, Option<LeaseKey>, FileNo, Extent),
 }

@@ -2,7 +2,11 @@ ghost use Rattle.std.specs.Prelude.{◌≡◌, true, [], Some, None, IsOk, OnOk,
 ghost use Rattle.break_timers.specs.Numbering.{noted_all, numbers_told};
 ghost use Rattle.break_timers.specs.Timers.{timers_of};
 ghost use Rattle.lease_state.specs.State.{state_of};
-ghost use Rattle.lease_model.specs.server.Naming.{key_of};
+ghost use Rattle.std.specs.Option.{option_map};
+ghost use Rattle.lease_model.specs.server.Naming.{key_of, key_under};
+ghost use Rattle.lease_manager.specs.GivingUp.{extent_of};
+ghost use Rattle.lease_manager.specs.LeftOpens.{numbers};
+ghost use Rattle.lease_manager.specs.Parting.{tag_numbers};
 ghost use Rattle.lease_manager.specs.Outs.{decisions};
 ghost use Rattle.lease_manager.specs.Requests.{request_like};
 ghost use Rattle.lease_manager.specs.Table.{manager_of};
@@ -15,7 +19,7 @@ ghost use Rattle.machines_c.specs.manager.Fields.{number_field};
 use crate::manager::coming::Coming;
 use crate::manager::numbering::note_all;
 use break_timers::{BreakNo, BreakTimers};
-use lease_manager::{Ask, ClientNo, Decision, FileNo, LeaseName, ListedOpen, Manager, Tag};
+use lease_manager::{Ask, ClientNo, Decision, Extent, FileNo, LeaseName, ListedOpen, Manager, Tag};
 use lease_state::{FileId, LeaseKey, LeaseState, Memory};
 use std::alloc::Global;
 
@@ -60,6 +64,9 @@ impl Managing {
             Coming::RunsOut(number) => self.run_out(alloc, number),
             Coming::Scavenges(fid) => self.scavenge(alloc, fid),
             Coming::Withdraws(file, client, tag) => self.withdraw(alloc, file, client, tag),
+            Coming::GivesUp(client, key, file, extent) => {
+                self.give_up(alloc, client, key, file, extent)
+            }
         }
     }
 
@@ -173,6 +180,42 @@ impl Managing {
         self.opens = Vec::new(alloc);
         self.manager
             .withdraw(file, client, tag, &mut self.decisions)?;
+        self.note()
+    }
+
+    // Other keys on a file are to give up what they hold.
+    fn give_up(
+        &mut self,
+        alloc: Global,
+        client: ClientNo,
+        key: Option<LeaseKey>,
+        file: FileNo,
+        extent: Extent,
+    ) -> Result<(), Memory>
+        ensures { OnOk result (Handled (λ one. rules.give_up one
+            (key_under client.0 (option_map (λ bytes. bytes.0) key)) file.0 (extent_of extent)) self.old self.new) }
+    {
+        self.opens = Vec::new(alloc);
+        self.manager
+            .give_up(client, key, file, extent, &mut self.decisions)?;
+        self.note()
+    }
+
+    /// A client leaves some of its opens, and what it asked under these tags.
+    pub(crate) fn leave(
+        &mut self,
+        alloc: Global,
+        client: ClientNo,
+        file_ids: &[FileId],
+        tags: &[Tag],
+    ) -> Result<(), Memory>
+        ensures after { OnOk result (Handled (λ one. rules.leave one client.0 (numbers file_ids.now) (tag_numbers tags.now))
+            self.old self.new) }
+        ensures idle { is_absent client.0 (manager_of self.old.manager) ≡ true → IsOk result }
+    {
+        self.opens = Vec::new(alloc);
+        self.manager
+            .leave(client, file_ids, tags, &mut self.decisions)?;
         self.note()
     }
 }

@@ -3,6 +3,8 @@ ghost use Rattle.std.specs.List.{list_any};
 ghost use Rattle.lease_model.specs.server.Calls.{is_left_behind};
 ghost use Rattle.lease_model.specs.server.Naming.{key_of};
 ghost use Rattle.lease_model.specs.server.Queries as queries;
+ghost use Rattle.lease_model.specs.messages.Requests.{FileRequest};
+ghost use Rattle.lease_manager.specs.Questions.{goes_at_once, write_within};
 ghost use Rattle.machines_c.specs.handles.Codes.{flag_of};
 ghost use Rattle.lease_manager.specs.Table.{queue_at, server_of};
 ghost use Rattle.manager_model.specs.Handling.{is_under};
@@ -143,6 +145,56 @@ pub extern "C" fn smblease_manager_open_count(alloc: Global, manager: &mut Manag
             let count = managing.manager.open_count();
             manager.put(alloc, managing);
             count
+        }
+    }
+}
+
+/// 1 where a read by this FileId of the client would be done at once (3.3.5.12): its open is connected and may read, and no
+/// earlier request goes first. Else 0.
+#[unsafe(no_mangle)]
+pub extern "C" fn smblease_manager_may_read(
+    alloc: Global,
+    manager: &mut ManagerHandle,
+    client: u64,
+    file_id: u64,
+) -> u32
+    ensures some { IfSome manager.old.held (λ one. result
+        ≡ flag_of (goes_at_once (server_of one.manager) client (FileRequest.Read file_id))) }
+    ensures none { manager.old.held ≡ None → result ≡ 0 }
+    ensures same { manager.new.held ≡ manager.old.held }
+{
+    match manager.take(alloc) {
+        None => 0,
+        Some(managing) => {
+            let may_read = managing.manager.may_read(FileId(file_id), ClientNo(client));
+            manager.put(alloc, managing);
+            u32::from(may_read)
+        }
+    }
+}
+
+/// 1 where a write by this FileId of the client that ends within what its host allows of a file would be done at once (3.3.5.13):
+/// its open is connected and may write, no lease of another key has to be broken, and no earlier request goes first. Else 0.
+#[unsafe(no_mangle)]
+pub extern "C" fn smblease_manager_may_write(
+    alloc: Global,
+    manager: &mut ManagerHandle,
+    client: u64,
+    file_id: u64,
+) -> u32
+    ensures some { IfSome manager.old.held (λ one. result
+        ≡ flag_of (goes_at_once (server_of one.manager) client (write_within file_id))) }
+    ensures none { manager.old.held ≡ None → result ≡ 0 }
+    ensures same { manager.new.held ≡ manager.old.held }
+{
+    match manager.take(alloc) {
+        None => 0,
+        Some(managing) => {
+            let may_write = managing
+                .manager
+                .may_write(FileId(file_id), ClientNo(client));
+            manager.put(alloc, managing);
+            u32::from(may_write)
         }
     }
 }

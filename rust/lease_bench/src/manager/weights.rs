@@ -21,6 +21,7 @@ pub fn weight(decision: &Decision) -> u64 {
         Decision::Acknowledged { client, state, .. } => joined(client.0, joined(u64::from(state.to_wire()), 6)),
         Decision::NotAcknowledged { client, .. } => joined(client.0, 7),
         Decision::Ended { file_id } => joined(file_id.0, 8),
+        Decision::LeftBehind { file_id } => joined(file_id.0, 9),
     }
 }
 

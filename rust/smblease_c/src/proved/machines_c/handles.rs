@@ -9,7 +9,7 @@ pub mod outcome;
 pub mod room;
 pub mod rules;
 
-pub use codes::{access_of, share_of, status_of};
+pub use codes::{access_of, extent_of, share_of, status_of};
 pub use loose::Loose;
 pub use outcome::Outcome;
 pub use room::{copied, fill, write_id};

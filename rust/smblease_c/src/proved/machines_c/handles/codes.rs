@@ -1,5 +1,6 @@
 // Made by tools/plain_rust from crates/machines_c/src/handles/codes.rt. Changes belong there.
 
+use smblease::proved::lease_manager::Extent;
 use smblease::proved::lease_state::{Access, Share, Status};
 
 /// The access that a number stands for (profile): 1 for reading, plus 2 for writing.
@@ -36,5 +37,14 @@ pub fn status_of(code: u32) -> Status {
         0xC000_00D0 => Status::RequestNotAccepted,
         0xC000_0128 => Status::FileClosed,
         _ => Status::Unsuccessful,
+    }
+}
+
+/// What a number says that other keys are to give up (own): 1 for handles, 2 for all that they cache.
+pub fn extent_of(number: u32) -> Option<Extent> {
+    match number {
+        1 => Some(Extent::Handles),
+        2 => Some(Extent::All),
+        _ => None,
     }
 }

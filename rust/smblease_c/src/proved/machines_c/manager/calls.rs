@@ -14,7 +14,7 @@ use std::alloc::Global;
 
 impl ManagerHandle {
     // What a call came to is held from now on; where it ran out of memory nothing is.
-    fn keep(&mut self, alloc: Global, managing: Box<Managing>, came: Result<(), Memory>) -> Outcome {
+    pub(crate) fn keep(&mut self, alloc: Global, managing: Box<Managing>, came: Result<(), Memory>) -> Outcome {
         match came {
             Ok(()) => {
                 self.put(alloc, managing);

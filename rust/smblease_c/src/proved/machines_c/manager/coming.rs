@@ -1,7 +1,7 @@
 // Made by tools/plain_rust from crates/machines_c/src/manager/coming.rt. Changes belong there.
 
 use smblease::proved::break_timers::BreakNo;
-use smblease::proved::lease_manager::{Ask, ClientNo, FileNo, Tag};
+use smblease::proved::lease_manager::{Ask, ClientNo, Extent, FileNo, Tag};
 use smblease::proved::lease_state::{FileId, LeaseKey, LeaseState};
 
 /// What comes to a manager.
@@ -25,4 +25,6 @@ pub enum Coming {
     Scavenges(FileId),
     /// A request that waits on the file is taken back.
     Withdraws(FileNo, ClientNo, Tag),
+    /// Other keys on a file than this one of the client's, or all, are to give up what they hold.
+    GivesUp(ClientNo, Option<LeaseKey>, FileNo, Extent),
 }

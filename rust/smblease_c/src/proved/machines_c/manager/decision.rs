@@ -18,8 +18,8 @@ pub struct ManagerDecision {
     pub file_id: u64,
     /// The key of the lease.
     pub key: [u8; 16],
-    /// 1 to 10: opened, goes on, closed, refused, waits, withdrawn, breaks, acknowledged, not
-    /// acknowledged, ended.
+    /// 1 to 11: opened, goes on, closed, refused, waits, withdrawn, breaks, acknowledged, not
+    /// acknowledged, ended, left behind.
     pub kind: u32,
     /// The NTSTATUS of an answer that refuses.
     pub status: u32,
@@ -113,6 +113,9 @@ impl ManagerDecision {
             }
             Decision::Ended { file_id } => {
                 ManagerDecision { file_id: file_id.0, ..ManagerDecision::of_kind(10, ClientNo(0), no_tag) }
+            }
+            Decision::LeftBehind { file_id } => {
+                ManagerDecision { file_id: file_id.0, ..ManagerDecision::of_kind(11, ClientNo(0), no_tag) }
             }
         }
     }

@@ -5,7 +5,7 @@ use std::prelude::Vec;
 use crate::proved::machines_c::manager::coming::Coming;
 use crate::proved::machines_c::manager::numbering::note_all;
 use smblease::proved::break_timers::{BreakNo, BreakTimers};
-use smblease::proved::lease_manager::{Ask, ClientNo, Decision, FileNo, LeaseName, ListedOpen, Manager, Tag};
+use smblease::proved::lease_manager::{Ask, ClientNo, Decision, Extent, FileNo, LeaseName, ListedOpen, Manager, Tag};
 use smblease::proved::lease_state::{FileId, LeaseKey, LeaseState, Memory};
 use std::alloc::Global;
 
@@ -39,6 +39,7 @@ impl Managing {
             Coming::RunsOut(number) => self.run_out(alloc, number),
             Coming::Scavenges(fid) => self.scavenge(alloc, fid),
             Coming::Withdraws(file, client, tag) => self.withdraw(alloc, file, client, tag),
+            Coming::GivesUp(client, key, file, extent) => self.give_up(alloc, client, key, file, extent),
         }
     }
 
@@ -107,6 +108,27 @@ impl Managing {
     fn withdraw(&mut self, alloc: Global, file: FileNo, client: ClientNo, tag: Tag) -> Result<(), Memory> {
         self.opens = Vec::new(alloc);
         self.manager.withdraw(file, client, tag, &mut self.decisions)?;
+        self.note()
+    }
+
+    // Other keys on a file are to give up what they hold.
+    fn give_up(
+        &mut self,
+        alloc: Global,
+        client: ClientNo,
+        key: Option<LeaseKey>,
+        file: FileNo,
+        extent: Extent,
+    ) -> Result<(), Memory> {
+        self.opens = Vec::new(alloc);
+        self.manager.give_up(client, key, file, extent, &mut self.decisions)?;
+        self.note()
+    }
+
+    /// A client leaves some of its opens, and what it asked under these tags.
+    pub(crate) fn leave(&mut self, alloc: Global, client: ClientNo, file_ids: &[FileId], tags: &[Tag]) -> Result<(), Memory> {
+        self.opens = Vec::new(alloc);
+        self.manager.leave(client, file_ids, tags, &mut self.decisions)?;
         self.note()
     }
 }

@@ -81,6 +81,32 @@ pub fn smblease_manager_open_count(alloc: Global, manager: &mut ManagerHandle) -
     }
 }
 
+/// 1 where a read by this FileId of the client would be done at once (3.3.5.12): its open is connected and may read, and no
+/// earlier request goes first. Else 0.
+pub fn smblease_manager_may_read(alloc: Global, manager: &mut ManagerHandle, client: u64, file_id: u64) -> u32 {
+    match manager.take(alloc) {
+        None => 0,
+        Some(managing) => {
+            let may_read = managing.manager.may_read(FileId(file_id), ClientNo(client));
+            manager.put(alloc, managing);
+            u32::from(may_read)
+        }
+    }
+}
+
+/// 1 where a write by this FileId of the client that ends within what its host allows of a file would be done at once (3.3.5.13):
+/// its open is connected and may write, no lease of another key has to be broken, and no earlier request goes first. Else 0.
+pub fn smblease_manager_may_write(alloc: Global, manager: &mut ManagerHandle, client: u64, file_id: u64) -> u32 {
+    match manager.take(alloc) {
+        None => 0,
+        Some(managing) => {
+            let may_write = managing.manager.may_write(FileId(file_id), ClientNo(client));
+            manager.put(alloc, managing);
+            u32::from(may_write)
+        }
+    }
+}
+
 /// The functions of this module for C.
 pub mod exported {
     use super::{KeyBytes, ManagerHandle};
@@ -119,5 +145,17 @@ pub mod exported {
     #[unsafe(no_mangle)]
     pub extern "C" fn smblease_manager_open_count(manager: &mut ManagerHandle) -> usize {
         super::smblease_manager_open_count(std::alloc::Global, manager)
+    }
+
+    /// [`super::smblease_manager_may_read`] for C.
+    #[unsafe(no_mangle)]
+    pub extern "C" fn smblease_manager_may_read(manager: &mut ManagerHandle, client: u64, file_id: u64) -> u32 {
+        super::smblease_manager_may_read(std::alloc::Global, manager, client, file_id)
+    }
+
+    /// [`super::smblease_manager_may_write`] for C.
+    #[unsafe(no_mangle)]
+    pub extern "C" fn smblease_manager_may_write(manager: &mut ManagerHandle, client: u64, file_id: u64) -> u32 {
+        super::smblease_manager_may_write(std::alloc::Global, manager, client, file_id)
     }
 }

@@ -1,0 +1,5 @@
+use Rattle.lease_laws.proofs.Words.{◌≡◌, map, take}
+use Rattle.machines_c.proofs.manager.leaving.tags_of.Given as goal
+
+abbrev pub invariant-loop-number : goal.invariant-loop-number
+invariant-loop-number l = l.tags.items ≡ map (λ n. record { 0 = n }) (take l.number-index l.given)
