@@ -11,6 +11,7 @@ from typing import Any
 
 from smblease import CreateAnswer, CreateAsk, LeaseState, Notification, Status
 from smblease.drive.headers import UNASKED, Message
+from smblease.serve import asks
 from smblease.serve.manager_clients import SHELLS
 from smblease.serve.server import Server
 from tests.serve.in_process import FrameClient, Sent
@@ -230,14 +231,15 @@ class RandomRequests:
         """The manager's opens are the shell's, but for those that the shell has for a moment or is closing; and what waits was
         asked for."""
         host: Any = self.server.host
-        closing = {it.asked.closes for it in host.waiting}
+        asking = [it for it in host.waiting if isinstance(it.asked, asks.Asked)]
+        closing = {it.asked.closes for it in asking}
         ours = {it.file_id: it.file_id not in self.server.kept for it in self.server.opens.values() if it.client}
         listed = {it.file_id: it.connected for it in host.manager.opens() if it.client < SHELLS}
         assert set(listed) - closing == set(ours) - closing
         assert all(ours[it] is listed[it] for it in set(ours) & set(listed))
-        assert host.still_waiting() == {(it.asked.client.number, it.tag, it.asked.file) for it in host.waiting}
+        assert host.still_waiting() == {(it.asked.client.number, it.tag, it.asked.file) for it in asking}
         pending = {task for it in self.members if it.client for task in it.client.connection.tasks}
-        assert {it for it in host.waiting if it.asked.closes is None} <= pending
+        assert {it for it in asking if it.asked.closes is None} | {it for it in host.waiting if it not in asking} <= pending
         for member in self.members:
             if member.client:
                 assert set(member.asked) == set(member.waiting)

@@ -3,7 +3,7 @@ from __future__ import annotations
 
 import pytest
 
-from smblease import CreateAnswer, LeaseState, Status
+from smblease import CreateAnswer, CreateAsk, LeaseState, Status
 from smblease.drive.headers import Command, Message
 from smblease.serve.create_parameters import CREATE, DELETE_ON_CLOSE, OPEN, OVERWRITE, OVERWRITE_IF
 from smblease.serve.server_process import ServerProcess
@@ -31,6 +31,44 @@ def test_an_overwrite_of_an_open_file(served: ServerProcess, connect: Connect) -
     one.ask(acknowledgment(KEY, "none"))
     assert end_of_file(other.answer_to(number)) == 0
     assert one.status(read(first)) == Status.END_OF_FILE
+
+
+def test_an_overwrite_while_a_lease_is_being_broken(served: ServerProcess, connect: Connect) -> None:
+    """Its client is asked for what is left once it has acknowledged that."""
+    one, other, third = connect(served), connect(served), connect(served)
+    one.open(leased("file", KEY, "RWH"))
+    opening = other.send(create("file"))
+    assert (other.receive().status, one.receive().number(92, 4)) == (Status.PENDING, 3), "a break to RH"
+    number = third.send(create("file", disposition=OVERWRITE))
+    assert third.receive().status == Status.PENDING
+    assert one.status(acknowledgment(KEY, "RH")) == Status.SUCCESS
+    assert other.answer_to(opening).status == Status.SUCCESS
+    assert one.receive().number(92, 4) == 0, "a break of what is left, which only reads"
+    assert end_of_file(third.answer_to(number)) == 0
+    assert one.status(acknowledgment(KEY, "none")) == Status.SUCCESS
+
+
+def test_an_overwrite_that_conflicts(served: ServerProcess, connect: Connect) -> None:
+    """Its client is asked for handles alone, as by any other create that conflicts."""
+    one, other = connect(served), connect(served)
+    one.open(create("file", share=1, level=LEASE, contexts=CreateAsk(KEY, LeaseState.of("RWH")).write()))
+    number = other.send(create("file", disposition=OVERWRITE))
+    assert (other.receive().status, one.receive().number(92, 4)) == (Status.PENDING, 5), "a break to RW"
+    one.ask(acknowledgment(KEY, "RW"))
+    assert other.answer_to(number).status == Status.SHARING_VIOLATION
+
+
+def test_an_overwrite_that_is_taken_back(served: ServerProcess, connect: Connect) -> None:
+    one, other = connect(served), connect(served)
+    first = one.open(leased("file", KEY, "RWH"))
+    one.ask(write(first))
+    number = other.send(create("file", disposition=OVERWRITE))
+    assert other.receive().status == Status.PENDING
+    other.send_cancel(number)
+    assert other.answer_to(number).status == Status.CANCELLED
+    one.receive()
+    assert one.status(acknowledgment(KEY, "none")) == Status.SUCCESS
+    assert end_of_file(other.ask(create("file", disposition=OPEN))) == 8
 
 
 def test_an_overwrite_that_is_refused_leaves_the_file(served: ServerProcess, connect: Connect) -> None:

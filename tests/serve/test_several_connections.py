@@ -58,13 +58,46 @@ def test_an_open_is_its_connections(served: ServerProcess, connect: Connect, is_
 
 
 def test_a_connection_that_is_lost(served: ServerProcess, connect: Connect) -> None:
-    """Its opens end, durable ones too, and those of the other one stay."""
+    """Its opens end, and those of the other one stay."""
     one, sister, other = connect(served, GUID), connect(served, GUID), connect(served)
-    lost, kept = one.open(leased("lost", KEY, "RWH", durable=True)), sister.open(leased("kept", OTHER_KEY, "RWH"))
+    one.open(leased("lost", KEY, "RWH"))
+    kept = sister.open(leased("kept", OTHER_KEY, "RWH"))
     lose(one, other)
     assert granted(other, "lost", "RWH") == LeaseState.of("RWH"), "nobody has it open"
     assert sister.status(write(kept)) == Status.SUCCESS
+
+
+def logged_off(leaving: "WireClient") -> None:
+    assert leaving.status((Command.LOGOFF, b"\4\0\0\0")) == Status.SUCCESS
+
+
+@pytest.mark.parametrize("is_session", [True, False], ids=["session", "connection"])
+def test_durable_opens_of_a_part(served: ServerProcess, connect: Connect, is_session: bool) -> None:
+    """They wait for the client, which is there still, and are connected again by its other session or connection."""
+    one, other = connect(served, GUID), connect(served)
+    lost = one.open(leased("lost", KEY, "RWH", durable=True))
+    ended = one.open(leased("ended", OTHER_KEY, "RWH"))
+    if is_session:
+        second = one.set_up_another_session()
+        logged_off(one)
+        one.session, sister = second, one
+        one.connect_tree()
+    else:
+        sister = connect(served, GUID)
+        lose(one, other)
+    assert sister.status(write(lost)) == Status.FILE_CLOSED
     again = create("lost", level=0xFF, contexts=CreateAsk(KEY, LeaseState.NONE, reconnect=lost).write())
+    assert sister.status(again) == Status.SUCCESS
+    assert [sister.status(it) for it in (write(lost), write(ended))] == [Status.SUCCESS, Status.FILE_CLOSED]
+
+
+def test_others_end_what_a_part_left(served: ServerProcess, connect: Connect) -> None:
+    """Who needs what its lease holds has it at once."""
+    one, sister, other = connect(served, GUID), connect(served, GUID), connect(served)
+    lost = one.open(leased("file", KEY, "RWH", durable=True))
+    lose(one, sister)
+    assert granted(other, "file", "RWH") == LeaseState.of("RWH")
+    again = create("file", level=0xFF, contexts=CreateAsk(KEY, LeaseState.NONE, reconnect=lost).write())
     assert sister.status(again) == Status.OBJECT_NAME_NOT_FOUND
 
 

@@ -7,8 +7,9 @@ from __future__ import annotations
 from collections.abc import Callable, Generator
 from dataclasses import dataclass
 from typing import Any, TypeVar, Union
+from uuid import UUID
 
-from smblease import Access, Acknowledgment, CreateAsk, Fault, Manager, Response, Share
+from smblease import Access, Acknowledgment, CreateAsk, Extent, Fault, Manager, Response, Share
 from smblease.contexts import NO_ASK
 from smblease.manager_decisions import Decisions, Opened
 from smblease.serve.node import Node
@@ -26,19 +27,38 @@ class Asked:
     """`call` gives it to a manager under a tag; `effect` is done where it goes on, at that place in the order of decisions. It
     may wait on the file, where it is about one."""
 
-    __slots__ = ("client", "node", "call", "effect", "is_new_open", "empties", "closes")
+    __slots__ = ("client", "node", "call", "effect", "is_new_open", "closes", "is_free")
 
     def __init__(self, client: ManagerClient, node: Node | None, call: Callable[[Manager, int], Decisions],
-                 effect: Callable[[], object] = nothing, is_new_open: bool = False, empties: bool = False,
-                 closes: int | None = None) -> None:
-        """`empties`: it changes the file as soon as it goes on. `closes` is the FileId of what it closes, which nobody takes
-        back."""
+                 effect: Callable[[], object] = nothing, is_new_open: bool = False, closes: int | None = None,
+                 is_free: Callable[[Manager], bool] | None = None) -> None:
+        """`closes` is the FileId of what it closes, which nobody takes back. `is_free`: whether it may be done without a call."""
         self.client, self.node, self.call, self.effect = client, node, call, effect
-        self.is_new_open, self.empties, self.closes = is_new_open, empties, closes
+        self.is_new_open, self.closes, self.is_free = is_new_open, closes, is_free
 
     @property
     def file(self) -> int:
         return self.node.number if self.node else 0
+
+
+@dataclass(frozen=True, eq=False)
+class GivingUp:
+    """Other keys on the file than this one of the client's are to give up as much; then `effect` is done at once. Without a key
+    none is spared."""
+
+    client: ManagerClient
+    key: UUID | None
+    node: Node
+    extent: Extent
+    effect: Callable[[], object] = nothing
+
+    def call(self, manager: Manager) -> Decisions:
+        """Has them give up what they don't yet."""
+        return manager.give_up(self.client.number, self.key, self.node.number, self.extent)
+
+    def is_over(self, manager: Manager) -> bool:
+        """Whether none is in the way."""
+        return manager.given_up(self.client.number, self.key, self.node.number, self.extent)
 
 
 @dataclass(frozen=True)
@@ -61,24 +81,26 @@ class Pause:
     """What waits for something that isn't the manager's, until it is resumed or taken back."""
 
 
-Yielded = Union[Asked, Acknowledging, Meanwhile, Pause]
+Yielded = Union[Asked, GivingUp, Acknowledging, Meanwhile, Pause]
 Waits = Generator[Yielded, Any, Found]
 Handling = Waits[Answer]
 Steps = Waits[None]
 
 
-def to_open(client: ManagerClient, node: Node, access: Access, share: Share, ask: CreateAsk, empties: bool) -> Asked:
+def to_open(client: ManagerClient, node: Node, access: Access, share: Share, ask: CreateAsk) -> Asked:
     return Asked(client, node, lambda manager, tag: manager.create(client.number, tag, node.number, access, share, ask),
-                 nothing, ask.reconnect is None, empties)
+                 nothing, ask.reconnect is None)
 
 
 def to_read(client: ManagerClient, opened: Open, effect: Callable[[], bytes]) -> Asked:
-    return Asked(client, opened.node, lambda manager, tag: manager.read(client.number, tag, opened.file_id), effect)
+    return Asked(client, opened.node, lambda manager, tag: manager.read(client.number, tag, opened.file_id), effect,
+                 is_free=lambda manager: manager.may_read(client.number, opened.file_id))
 
 
 def to_write(client: ManagerClient, node: Node, file_id: int, effect: Callable[[], object], fits: bool = True) -> Asked:
     """Asks for a change of the file, which `effect` makes."""
-    return Asked(client, node, lambda manager, tag: manager.write(client.number, tag, file_id, fits), effect)
+    return Asked(client, node, lambda manager, tag: manager.write(client.number, tag, file_id, fits), effect,
+                 is_free=lambda manager: fits and manager.may_write(client.number, file_id))
 
 
 def to_close(client: ManagerClient, node: Node, file_id: int, effect: Callable[[], object] = nothing) -> Asked:
@@ -86,7 +108,7 @@ def to_close(client: ManagerClient, node: Node, file_id: int, effect: Callable[[
 
 
 def opening(client: ManagerClient, node: Node, access: Access, share: Share, ask: CreateAsk = NO_ASK) -> Waits[Opened]:
-    opened = yield to_open(client, node, access, share, ask, False)
+    opened = yield to_open(client, node, access, share, ask)
     assert isinstance(opened, Opened)
     return opened
 

@@ -3,7 +3,7 @@ from __future__ import annotations
 
 import struct
 
-from smblease import Access, Context, CreateAnswer, CreateAsk, LeaseState, Share, Status, append_context
+from smblease import Access, Context, CreateAnswer, CreateAsk, LeaseState, Share, Status, append_context, opens_conflict
 from smblease.drive.headers import HEADER
 from smblease.manager_decisions import Opened
 from smblease.serve.access import ALL_ACCESS, READING, SHARE_READ, WRITING, is_of_attributes, is_stat, writes
@@ -136,10 +136,12 @@ class Create(Handlers):
         if not changes and not has_data and (wanted.level == NO_LEVEL or is_of_attributes(access)
                                              and not server.looking.may_cache(node, request.client, wanted.key)):
             return (yield from self._file_without_data(request, wanted, node)), b""
+        if wanted.empties and node.opens.leases and self._is_shared(wanted, node):
+            yield from self._empty(request, wanted, node)
         client, ask = self._manager_client(request, wanted, node)
         hides = not wanted.share & SHARE_READ and server.looking.hides(node, wanted.share)
         try:
-            decided = yield to_open(client, node, *wanted.rights_beside(hides), ask, wanted.empties)
+            decided = yield to_open(client, node, *wanted.rights_beside(hides), ask)
             if not request.has_tree():
                 yield from self._refuse_late(request, client, node, decided)
             # (what the shell guards may have been opened while it waited)
@@ -154,6 +156,18 @@ class Create(Handlers):
         if node.is_gone or node.is_deleting or wanted.empties or opened.deletes:
             yield from self._after_grant(request, wanted, opened, action)
         return opened, decided.answer.write() if not client.open else self._oplock_contexts(opened)
+
+    @staticmethod
+    def _is_shared(wanted: CreateParameters, node: Node) -> bool:
+        """Whether the manager refuses it for no open that is there."""
+        access, share = wanted.rights
+        return not any(opens_conflict(access, share, *it.rights) for it in node.opens if it.rights)
+
+    def _empty(self, request: Request, wanted: CreateParameters, node: Node) -> Steps:
+        """Has all others give up all at once, and not writes first."""
+        yield from self._server.forced_breaks.break_for_emptying(request, node, wanted.key)
+        if node.is_gone:
+            raise Vanished
 
     def _file_without_data(self, request: Request, wanted: CreateParameters, node: Node) -> Waits[Open]:
         if not is_stat(wanted.access) or not is_of_attributes(wanted.access) and node.opens.oplocks:
@@ -221,7 +235,7 @@ class Create(Handlers):
                  hides: bool) -> Open:
         """The open that the manager made."""
         opened = self._new(request, wanted, node, decided.file_id)
-        opened.client, opened.is_durable = client, decided.answer.durable
+        opened.client, opened.is_durable, opened.rights = client, decided.answer.durable, wanted.rights_beside(hides)
         opened.is_lent = wanted.empties or not wanted.access & (READING | WRITING)
         opened.hides_reading = hides
         client.opens += 1

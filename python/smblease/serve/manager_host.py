@@ -6,23 +6,23 @@ from __future__ import annotations
 import asyncio
 import itertools
 from collections import deque
-from collections.abc import Callable
-from dataclasses import replace
+from collections.abc import Callable, Sequence
+from functools import partial
 from typing import TYPE_CHECKING, Any
 
-from smblease import LeaseState, MachineLost, Manager, Rules, Status
+from smblease import MachineLost, Manager, Rules, Status
 from smblease.drive.headers import Unreadable
 from smblease.faults import ToolFault
-from smblease.manager_decisions import (Acknowledged, Breaks, Closed, Decision, Decisions, Ended, GoesOn, NotAcknowledged, Opened,
-                                        Refused, Waits, Withdrawn)
-from smblease.serve.asks import Acknowledging, Asked, Handling, Meanwhile, Pause, Steps, Yielded
+from smblease.manager_decisions import (Acknowledged, Breaks, Closed, Decision, Decisions, Ended, GoesOn, LeftBehind,
+                                        NotAcknowledged, Opened, Refused, Waits, Withdrawn)
+from smblease.serve.asks import Acknowledging, Asked, GivingUp, Handling, Meanwhile, Pause, Steps, Yielded
 from smblease.serve.disk_status import status_of
 from smblease.serve.packets import Answer
 from smblease.serve.status_error import EXHAUSTED, RefusedByManager, StatusError
 
 if TYPE_CHECKING:
+    from smblease.serve.opens import ManagerClient
     from smblease.serve.server import Server
-
 
 
 LOST = (MachineLost, *EXHAUSTED)
@@ -41,7 +41,7 @@ class Task:
     def _prepare(self) -> None:
         self.is_over = False
         # what it waits for
-        self.asked: Asked | None = None
+        self.asked: Asked | GivingUp | None = None
         self.tag = 0
         self.pause: Pause | None = None
         # what the manager decided of it, and whose leases it broke by that, where somebody wants to know
@@ -65,6 +65,8 @@ class ManagerHost:
         self._tags = itertools.count(1)
         # by their tags, of which no two are the same
         self._waiting: dict[int, Task] = {}
+        # those of them that wait until others have given up what they hold
+        self._giving_up: dict[int, Task] = {}
         # an acknowledgment with its task
         self._decisions: deque[tuple[Decision | Pause, Task | None]] = deque()
         self._paused: dict[Pause, Task] = {}
@@ -72,7 +74,8 @@ class ManagerHost:
         self._carries: dict[type[Any], Callable[[Any, Task | None], None]] = {
             GoesOn: self._goes_on, Opened: self._goes_on, Closed: self._goes_on, Refused: self._refused, Withdrawn: self._refused,
             Acknowledged: self._acknowledged, NotAcknowledged: self._acknowledged, Pause: self._go_on,
-            Breaks: lambda it, _: server.broken(it), Ended: lambda it, _: server.ended(it.file_id), Waits: lambda _, __: None}
+            Breaks: lambda it, _: server.broken(it), Ended: lambda it, _: server.ended(it.file_id),
+            Waits: lambda _, __: None, LeftBehind: lambda _, __: None}
 
     @property
     def waiting(self) -> list[Task]:
@@ -110,10 +113,13 @@ class ManagerHost:
         self.is_draining = True
         decisions, carries = self._decisions, self._carries
         try:
-            while decisions:
-                decision, task = decisions.popleft()
+            while decisions or self._giving_up:
                 try:
-                    carries[type(decision)](decision, task)
+                    if decisions:
+                        decision, task = decisions.popleft()
+                        carries[type(decision)](decision, task)
+                    elif not self._goes_on_by_giving_up():
+                        break
                 except EXHAUSTED:
                     # It can't be told any more who was sent what.
                     self._lost()
@@ -126,9 +132,24 @@ class ManagerHost:
         if task.pause:
             self._resumed(task.pause)
             self._refuse(task, StatusError(Status.CANCELLED))
+        elif isinstance(asked, GivingUp):
+            self._waiting.pop(tag, None)
+            self._refuse(task, StatusError(Status.CANCELLED))
         elif asked and asked.closes is None:
             client, file = asked.client.number, asked.file
             self.call(lambda manager: manager.withdraw(client, tag, file))
+
+    def leave(self, client: ManagerClient, file_ids: list[int], tasks: Sequence[Task]) -> None:
+        """A part of a client goes, with these opens and what these tasks wait for; what closes an open goes on."""
+        asking = [it for it in tasks if it.asked and it.asked.client is client and it.tag in self._waiting
+                  and isinstance(it.asked, Asked) and it.asked.closes is None]
+        self.call(lambda manager: manager.leave(client.number, file_ids, [it.tag for it in asking]))
+        for task in asking:
+            if self._waiting.pop(task.tag, None):
+                self._refuse(task, StatusError(Status.USER_SESSION_DELETED))
+        for task in tasks:
+            if task.pause or isinstance(task.asked, GivingUp):
+                self.withdraw(task)
 
     def resume(self, pauses: list[Pause]) -> None:
         """These go on once what is decided by now is carried out."""
@@ -184,27 +205,55 @@ class ManagerHost:
                 self.call(lambda manager: manager.scavenge(file_id))
             return
         asked = task.asked
+        assert isinstance(asked, Asked)
         fault: StatusError | None = None
         found: object = decision
-        try:
-            # pylint: disable-next=unidiomatic-typecheck  # (of what it isn't isinstance finds that later)
-            if type(decision) is not Opened:
-                found = asked.effect()
-            elif asked.is_new_open and asked.node and self._server.record.is_kept:
-                self._server.record.opened(asked.client, asked.node)
-        except StatusError as refused:
-            fault = refused
-        except OSError as failed:
-            fault = StatusError(status_of(failed))
-        except ToolFault:
-            raise
-        except Exception as broken:  # pylint: disable=broad-exception-caught  # one request's fault ends no other
-            fault = StatusError(self._server.failed(broken))
+        # pylint: disable-next=unidiomatic-typecheck  # (of what it isn't isinstance finds that later)
+        if type(decision) is not Opened:
+            found, fault = self._done(asked.effect)
+        elif asked.is_new_open and asked.node and self._server.record.is_kept:
+            fault = self._done(partial(self._server.record.opened, asked.client, asked.node))[1]
         self._server.sent(decision.client)
         if fault:
             self._refuse(task, fault)
         else:
             self._go(task, task.handling.send, found)
+
+    def _done(self, effect: Callable[[], object]) -> tuple[object, StatusError | None]:
+        """What comes of an effect."""
+        try:
+            return effect(), None
+        except StatusError as refused:
+            return None, refused
+        except OSError as failed:
+            return None, StatusError(status_of(failed))
+        except ToolFault:
+            raise
+        except Exception as broken:  # pylint: disable=broad-exception-caught  # one request's fault ends no other
+            return None, StatusError(self._server.failed(broken))
+
+    def _goes_on_by_giving_up(self) -> bool:
+        """Has others give up what is waited for, once all that was decided is carried out; whether there is more to carry out by
+        that, or to look at."""
+        for tag, task in list(self._giving_up.items()):
+            asked = task.asked
+            if tag not in self._waiting or not isinstance(asked, GivingUp):
+                del self._giving_up[tag]
+            elif asked.is_over(self.manager):
+                del self._giving_up[tag], self._waiting[tag]
+                found, fault = self._done(asked.effect)
+                if fault:
+                    self._refuse(task, fault)
+                else:
+                    self._send(task, found)
+                return True
+            else:
+                decisions = self.call(asked.call)
+                if task.decided is not None:
+                    task.decided += (it for it in decisions if isinstance(it, Breaks))
+                if decisions:
+                    return True
+        return False
 
     # Tasks
 
@@ -229,7 +278,14 @@ class ManagerHost:
     def _ask(self, task: Task, asked: Yielded | Answer) -> None:
         """What comes of a client that isn't connected is dropped, and nothing is decided."""
         if isinstance(asked, Asked):
+            if asked.is_free and not self._decisions and asked.is_free(self.manager):
+                self._do_at_once(task, asked)
+                return
             is_decided = self._put(task, asked)
+        elif isinstance(asked, GivingUp):
+            task.asked, task.tag = asked, next(self._tags)
+            self._waiting[task.tag] = self._giving_up[task.tag] = task
+            return
         elif isinstance(asked, Answer):
             self._end(task, asked)
             return
@@ -247,6 +303,18 @@ class ManagerHost:
                 self._waiting.pop(task.tag, None)
             self._refuse(task, StatusError(Status.FILE_CLOSED))
 
+    def _do_at_once(self, task: Task, asked: Asked) -> None:
+        """A read or a write that the manager would let go on, where nothing else is to be carried out."""
+        task.asked = None
+        found, fault = self._done(asked.effect)
+        if task.decided is not None:
+            task.decided.append(GoesOn(asked.client.number, 0))
+        self._server.sent(asked.client.number)
+        if fault:
+            self._refuse(task, fault)
+        else:
+            self._send(task, found)
+
     def _put(self, task: Task, asked: Asked) -> bool:
         tag = next(self._tags)
         task.asked, task.tag = asked, tag
@@ -257,10 +325,9 @@ class ManagerHost:
             self._lost()
             return False
         for it in decisions:
-            told = _told(it) if asked.empties else it
-            self._decisions.append((told, None))
-            if task.decided is not None and isinstance(told, (Breaks, Waits)):
-                task.decided.append(told)
+            self._decisions.append((it, None))
+            if task.decided is not None and isinstance(it, (Breaks, Waits)):
+                task.decided.append(it)
         return bool(decisions)
 
     def _acknowledge(self, task: Task, asked: Acknowledging) -> bool:
@@ -305,12 +372,3 @@ class ManagerHost:
     def _end(task: Task, answer: Answer | None) -> None:
         task.is_over, task.asked = True, None
         task.ended(answer or Answer(Status.UNSUCCESSFUL))
-
-
-def _told(decision: Decision) -> Decision:
-    """What overwrites would break the rest of a lease as soon as W is given up: its client is asked for all of it at once."""
-    if not isinstance(decision, Breaks):
-        return decision
-    notification = decision.notification
-    gives_up_writes = LeaseState.W in notification.current & ~notification.new
-    return replace(decision, notification=replace(notification, new=LeaseState.NONE)) if gives_up_writes else decision

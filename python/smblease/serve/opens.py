@@ -6,7 +6,7 @@ from dataclasses import dataclass, field
 from typing import TYPE_CHECKING
 from uuid import UUID
 
-from smblease import LeaseState
+from smblease import Access, LeaseState, Share
 from smblease.serve.node import Node
 
 if TYPE_CHECKING:
@@ -37,8 +37,9 @@ class Open:  # pylint: disable=too-many-instance-attributes  # it has the state 
         self.tree: Tree | None = tree
         self.owner = session.owner
         self.locks: list[Lock] = []
-        # the manager's client; none for what the shell keeps by itself
+        # the manager's client, and access and share as it has them; none for what the shell keeps by itself
         self.client: ManagerClient | None = None
+        self.rights: tuple[Access, Share] | None = None
         self.key: UUID | None = None
         self.level, self.position = NO_LEVEL, 0
         # `writes_through`: what it writes is on disk before that is answered

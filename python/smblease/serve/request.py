@@ -60,10 +60,6 @@ class Request:
         return found
 
     @property
-    def is_last_session(self) -> bool:
-        return sum(it.is_ready for it in self.connection.sessions.values()) == 1
-
-    @property
     def tree(self) -> Tree:
         return self.tree_of(self.session)
 

@@ -5,7 +5,7 @@ import asyncio
 import itertools
 import logging
 import uuid
-from collections.abc import Callable
+from collections.abc import Callable, Sequence
 from typing import TYPE_CHECKING
 
 from smblease import LeaseState, Status
@@ -152,7 +152,7 @@ class Server:  # pylint: disable=too-many-instance-attributes  # its parts find 
                 return found
 
     def end_session(self, session: Session) -> None:
-        """With the last one of a client's last connection the client is gone. What another one has open is closed."""
+        """With the last one of a client's last connection the client is gone. What lasts of an open stays in both cases."""
         connection = session.connection
         connection.sessions.pop(session.identifier, None)
         self.sessions.pop(session.identifier, None)
@@ -160,8 +160,15 @@ class Server:  # pylint: disable=too-many-instance-attributes  # its parts find 
             connection.former_keys.keep(session.identifier, session.key)
         if connection.client and not any(it.is_ready for it in connection.sessions.values()):
             self._disconnect_client(connection, connection.client)
-        elif connection.is_open:
-            self.start(self.close_all(lambda it: it.session is session, True))
+        elif connection.is_open and connection.client:
+            opens = [it for it in self.opens.values() if it.session is session]
+            oplocks = [it.client for it in opens if it.client and it.client.open]
+            for one in oplocks:
+                one.connections.clear()
+                self._cut(one)
+            self._part(connection.client, opens, [])
+            self.host.abandon({it.number for it in oplocks}, Status.USER_SESSION_DELETED)
+            self.host.drain()
         connection.waiting.count()
 
     def _disconnect_client(self, connection: Connection, client: ManagerClient) -> None:
@@ -175,12 +182,7 @@ class Server:  # pylint: disable=too-many-instance-attributes  # its parts find 
         cut = [it for it in connected if not it.is_connected]
         for one in cut:
             self._cut(one)
-        for opened in opens:
-            self._leave(opened)
-        self.kept.limit([it for it in opens if it.file_id in self.kept])
-        # The last one first: none goes on because one before it is taken back.
-        for task in reversed(connection.tasks if client.is_connected else []):
-            self.host.withdraw(task)
+        self._part(client, opens, connection.tasks)
         self.host.abandon({it.number for it in cut}, Status.USER_SESSION_DELETED)
         self._drop(client)
         self.settle()
@@ -189,14 +191,24 @@ class Server:  # pylint: disable=too-many-instance-attributes  # its parts find 
         self.record.dropped(client)
         self.host.call(lambda manager: manager.cut(client.number))
 
+    def _part(self, client: ManagerClient, opens: list[Open], tasks: Sequence[Task]) -> None:
+        """A session or a connection of a client goes, with these opens and what waits of these tasks. The client may stay."""
+        leases = dict.fromkeys(it.lease for it in opens if it.lease)
+        if client.is_connected:
+            self.host.leave(client, [it.file_id for it in opens if it.client is client], tasks)
+        for opened in opens:
+            self._leave(opened)
+        for lease in leases:
+            if lease.opens and client.is_connected and not any(it.is_connected for it in lease.opens):
+                self.record.believes(client, lease, LeaseState.NONE)
+        self.kept.limit([it for it in opens if it.file_id in self.kept])
+
     def _leave(self, opened: Open) -> None:
-        """An open of a connection that is over: it is closed where its client has another one, else kept or forgotten."""
+        """An open whose session is over: it is kept or forgotten."""
         opened.connection = opened.session = opened.tree = None
         opened.is_breaking = False
         self.host.resume(opened.node.pauses)
-        if opened.client and opened.client.is_connected:
-            self.start(self.close_open(opened))
-        elif opened.client and self.host.manager.left_behind(opened.file_id):
+        if opened.client and self.host.manager.left_behind(opened.file_id):
             self.kept.keep(opened)
         else:
             self.forget_open(opened)
@@ -240,8 +252,8 @@ class Server:  # pylint: disable=too-many-instance-attributes  # its parts find 
         except StatusError:
             self.host.call(lambda manager: manager.scavenge(file_id))
 
-    def close_all(self, concerned: Callable[[Open], bool], is_wanted: bool) -> Steps:
-        for opened in [it for it in self.opens.values() if is_wanted and it.is_connected and concerned(it)]:
+    def close_all(self, concerned: Callable[[Open], bool]) -> Steps:
+        for opened in [it for it in self.opens.values() if it.is_connected and concerned(it)]:
             if opened.file_id in self.opens:
                 yield from self.close_open(opened)
 

@@ -140,9 +140,8 @@ class Sessions(Handlers):
         wants_to_sign = message.number(HEADER + 3, 1) & SIGNING_REQUIRED or not self._server.settings.has_guests
         session.signs = session.signs or bool(proved.key and wants_to_sign)
 
-    def log_off(self, request: Request) -> Handling:
+    def log_off(self, request: Request) -> Answer:
         key = request.session.key
-        yield from self._server.close_all(lambda it: it.session is request.session, not request.is_last_session)
         self._server.end_session(request.session)
         return Answer(Status.SUCCESS, struct.pack("<HH", 4, 0), key=key)
 
@@ -160,7 +159,7 @@ class Sessions(Handlers):
     def disconnect_tree(self, request: Request) -> Handling:
         tree = request.tree
         del request.session.trees[tree.identifier]
-        yield from self._server.close_all(lambda it: it.tree is tree, True)
+        yield from self._server.close_all(lambda it: it.tree is tree)
         return Answer(Status.SUCCESS, struct.pack("<HH", 4, 0))
 
     def echo(self, _: Request) -> Answer:
