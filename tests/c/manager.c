@@ -56,6 +56,7 @@ static void decides(const struct smblease_manager_decision *wanted, size_t count
 static void calls_of_nothing(void) {
     struct smblease_create_ask ask = {.key = KEY};
     struct smblease_acknowledgment given = {.key = KEY};
+    struct smblease_maybe_key none = {KEY, 0};
     IS(smblease_manager_join(&manager, CLIENT), SMBLEASE_NONE);
     IS(smblease_manager_cut(&manager, CLIENT), SMBLEASE_NONE);
     IS(smblease_manager_expire(&manager, CLIENT, &key), SMBLEASE_NONE);
@@ -70,6 +71,9 @@ static void calls_of_nothing(void) {
     IS(smblease_manager_acknowledge(&manager, CLIENT, &given), SMBLEASE_NONE);
     IS(smblease_manager_acknowledge_malformed(&manager, CLIENT), SMBLEASE_NONE);
     IS(smblease_manager_withdraw(&manager, CLIENT, TAG, FILE_NO), SMBLEASE_NONE);
+    IS(smblease_manager_leave(&manager, CLIENT, NULL, 0, NULL, 0), SMBLEASE_NONE);
+    IS(smblease_manager_give_up(&manager, CLIENT, &none, FILE_NO, SMBLEASE_EXTENT_ALL), SMBLEASE_NONE);
+    IS(smblease_manager_give_up(&manager, CLIENT, &none, FILE_NO, 0), SMBLEASE_NO_SUCH);
     IS(smblease_manager_list_opens(&manager), SMBLEASE_NONE);
 }
 
@@ -87,6 +91,9 @@ static void questions_of_nothing(void) {
     IS(smblease_manager_waiting(&manager, CLIENT, TAG, FILE_NO), 0);
     IS(smblease_manager_left_behind(&manager, 1), 0);
     IS(smblease_manager_has_open(&manager, 1), 0);
+    IS(smblease_manager_may_read(&manager, CLIENT, 1), 0);
+    IS(smblease_manager_may_write(&manager, CLIENT, 1), 0);
+    IS(smblease_manager_given_up(&manager, CLIENT, &maybe, FILE_NO, SMBLEASE_EXTENT_ALL), 0);
     IS(smblease_manager_open_count(&manager), 0);
     IS(smblease_manager_allowed(&manager, CLIENT, &maybe, FILE_NO, 7), 0);
     IS(smblease_manager_kept(&manager, CLIENT, FILE_NO, &file_id), SMBLEASE_NONE);
@@ -201,7 +208,7 @@ static void left_behind(void) {
     DONE(smblease_manager_create(&manager, CLIENT, TAG, FILE_NO, 3, 1, &ask));
     IS(smblease_manager_kept(&manager, CLIENT, FILE_NO, &file_id), SMBLEASE_NO_SUCH);
     DONE(smblease_manager_cut(&manager, CLIENT));
-    NOTHING_DECIDED;
+    DECIDES({.file_id = 3, .kind = SMBLEASE_DECISION_LEFT_BEHIND});
     IS(smblease_manager_left_behind(&manager, 3), 1);
     IS(smblease_manager_left_behind(&manager, 1), 0);
     IS(smblease_manager_kept(&manager, CLIENT, FILE_NO, &file_id), SMBLEASE_DONE);
@@ -291,6 +298,61 @@ static void ran_out(void) {
     NOTHING_DECIDED;
 }
 
+/* ---- what is done without an open, and a part of a client that goes ---- */
+
+static void gave_up(void) {
+    struct smblease_create_ask ask = {.key = KEY, .state = 7, .has_lease = 1};
+    struct smblease_acknowledgment given = {.key = KEY, .state = 0};
+    struct smblease_maybe_key own = {KEY, 2}, none = {KEY, 0};
+    DONE(smblease_manager_create(&manager, OTHER, TAG, 2, 3, 3, &ask));
+    IS(smblease_manager_given_up(&manager, OTHER, &own, 2, SMBLEASE_EXTENT_HANDLES), 1);
+    IS(smblease_manager_given_up(&manager, OTHER, &none, 2, SMBLEASE_EXTENT_HANDLES), 0);
+    IS(smblease_manager_given_up(&manager, CLIENT, &own, 2, SMBLEASE_EXTENT_ALL), 0);
+    IS(smblease_manager_given_up(&manager, CLIENT, &own, 3, SMBLEASE_EXTENT_ALL), 1);
+    IS(smblease_manager_given_up(&manager, CLIENT, &own, 3, 3), 0);
+    IS(smblease_manager_give_up(&manager, CLIENT, &none, 2, 3), SMBLEASE_NO_SUCH);
+    DECIDES({.client = OTHER, .tag = TAG, .file_id = 9, .key = KEY, .kind = SMBLEASE_DECISION_OPENED, .state = 7,
+             .has_lease = 1});
+    DONE(smblease_manager_give_up(&manager, OTHER, &own, 2, SMBLEASE_EXTENT_ALL));
+    NOTHING_DECIDED;
+    DONE(smblease_manager_give_up(&manager, CLIENT, &own, 2, SMBLEASE_EXTENT_HANDLES));
+    DECIDES({.client = OTHER, .key = KEY, .kind = SMBLEASE_DECISION_BREAKS, .current_state = 7, .new_state = 5,
+             .ack_required = 1, .number = 5});
+    DONE(smblease_manager_give_up(&manager, OTHER, &none, 2, SMBLEASE_EXTENT_ALL));
+    NOTHING_DECIDED;
+    DONE(smblease_manager_acknowledge(&manager, OTHER, &given));
+    IS(smblease_manager_given_up(&manager, CLIENT, &none, 2, SMBLEASE_EXTENT_ALL), 1);
+}
+
+/* Open 9 caches nothing any longer, 10 gives up its writes, and stays. */
+static void left(void) {
+    struct smblease_create_ask ask = {.key = {1}, .state = 7, .has_lease = 1, .durable = 1}, none = {0};
+    struct smblease_acknowledgment given = {.key = {1}, .state = 3};
+    const uint64_t opens[] = {10, 9, 8}, tags[] = {LATER_TAG, TAG};
+    DONE(smblease_manager_create(&manager, OTHER, TAG, 3, 3, 3, &ask));
+    DONE(smblease_manager_create(&manager, CLIENT, LATER_TAG, 3, 1, 3, &none));
+    DONE(smblease_manager_create(&manager, OTHER, LATER_TAG, 3, 3, 3, &none));
+    IS(smblease_manager_may_read(&manager, OTHER, 9), 1);
+    IS(smblease_manager_may_write(&manager, OTHER, 9), 1);
+    IS(smblease_manager_may_read(&manager, CLIENT, 9), 0);
+    IS(smblease_manager_may_read(&manager, CLIENT, 8), 1);
+    IS(smblease_manager_may_write(&manager, CLIENT, 8), 0);
+    IS(smblease_manager_waiting(&manager, OTHER, LATER_TAG, 3), 1);
+    DONE(smblease_manager_leave(&manager, OTHER, NULL, 0, &tags[0], 1));
+    NOTHING_DECIDED;
+    IS(smblease_manager_waiting(&manager, OTHER, LATER_TAG, 3), 0);
+    IS(smblease_manager_waiting(&manager, CLIENT, LATER_TAG, 3), 1);
+    DONE(smblease_manager_acknowledge(&manager, OTHER, &given));
+    DECIDES({.client = OTHER, .key = {1}, .kind = SMBLEASE_DECISION_ACKNOWLEDGED, .state = 3},
+            {.client = CLIENT, .tag = LATER_TAG, .file_id = 11, .kind = SMBLEASE_DECISION_OPENED});
+    DONE(smblease_manager_leave(&manager, OTHER, opens, 3, tags, 2));
+    DECIDES({.file_id = 9, .kind = SMBLEASE_DECISION_ENDED}, {.file_id = 10, .kind = SMBLEASE_DECISION_LEFT_BEHIND});
+    DONE(smblease_manager_leave(&manager, OTHER, opens, 3, NULL, 0));
+    NOTHING_DECIDED;
+    IS(smblease_manager_connected(&manager, OTHER), 1);
+    IS(smblease_manager_has_open(&manager, 8), 1);
+}
+
 int main(void) {
     calls_of_nothing();
     questions_of_nothing();
@@ -305,6 +367,8 @@ int main(void) {
     ended();
     scavenged();
     ran_out();
+    gave_up();
+    left();
     smblease_manager_free(&manager);
     IS(manager.state != NULL, 0);
     return wrong;

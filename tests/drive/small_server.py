@@ -25,8 +25,8 @@ from file_server import FileServer, Handle, Request  # noqa: E402
 
 from smblease import Access, Acknowledgment, CreateAnswer, CreateAsk, Fault, LeaseState, Manager, Share, Status  # noqa: E402
 from smblease.drive.headers import HEADER, Command, create_name  # noqa: E402
-from smblease.manager_decisions import (Acknowledged, Breaks, Closed, Decision, Ended, GoesOn, NotAcknowledged,  # noqa: E402
-                                        Opened, Refused, Waits)
+from smblease.manager_decisions import (Acknowledged, Breaks, Closed, Decision, Ended, GoesOn, LeftBehind,  # noqa: E402
+                                        NotAcknowledged, Opened, Refused, Waits)
 from smblease.serve.packets import RequestMessage  # noqa: E402
 from smblease.values import LARGEST_FILE, Rules  # noqa: E402
 from tests.drive.small_wire import CLOSED, SmallConnection, created, read, written  # noqa: E402
@@ -203,6 +203,9 @@ class SmallServer(FileServer):
         elif isinstance(decision, Ended):
             if self._mistake is not Mistake.KEPT_OPENS:
                 os.close(self.handles.pop(decision.file_id).descriptor)
+        elif isinstance(decision, LeftBehind):
+            # (no schedule waits as long as its timer)
+            return
         elif isinstance(decision, Waits):
             waiting = self._requests[decision.client, decision.tag]
             waiting.refuse(Status.PENDING)
@@ -231,7 +234,7 @@ class SmallServer(FileServer):
         is_kept = self._mistake is Mistake.KEPT_OPENS and request.file_id in self.handles
         if isinstance(decision, Opened):
             if decision.file_id not in self.handles:
-                self.handles[decision.file_id] = Handle(decision.client, request.file, self.descriptor_of(request.file))
+                self.handles[decision.file_id] = Handle(request.file, self.descriptor_of(request.file))
             length = os.fstat(self.handles[decision.file_id].descriptor).st_size
             request.answer(created(decision.file_id, decision.answer, length))
         elif isinstance(decision, Closed):

@@ -8,10 +8,10 @@ from pathlib import Path
 
 import pytest
 
-from smblease import (Access, Acknowledgment, CreateAnswer, CreateAsk, HeldLease, LeaseState, ListedOpen, Manager, Notification,
-                      Response, Rules, Share, Status)
-from smblease.manager_decisions import (Acknowledged, Breaks, Closed, Decisions, Ended, GoesOn, NotAcknowledged, Opened, Refused,
-                                        Waits, Withdrawn)
+from smblease import (Access, Acknowledgment, CreateAnswer, CreateAsk, Extent, HeldLease, LeaseState, ListedOpen, Manager,
+                      Notification, Response, Rules, Share, Status)
+from smblease.manager_decisions import (Acknowledged, Breaks, Closed, Decisions, Ended, GoesOn, LeftBehind, NotAcknowledged,
+                                        Opened, Refused, Waits, Withdrawn)
 from tests.paths import TESTS, TOP, files_of
 from tests.python.refusing import LOST, Ended as Finished, refusals, run
 
@@ -83,7 +83,7 @@ def test_a_request_is_withdrawn(manager: Manager) -> None:
 
 def test_opens_stay(manager: Manager) -> None:
     assert opened(ONE, 10, KEY, RWH, manager, durable=True) == (Opened(ONE, 10, 1, CreateAnswer(KEY, RWH, durable=True)),)
-    assert manager.cut(ONE) == ()
+    assert manager.cut(ONE) == (LeftBehind(1),)
     assert manager.left_behind(1) and manager.has_open(1) and manager.kept(ONE, FILE) == 1 and not manager.connected(ONE)
     left = ListedOpen(1, ONE, FILE, KEY, Access.READ_WRITE, Share.READ_WRITE, durable=True, connected=False)
     assert manager.opens() == (left,) and manager.open_count() == 1
@@ -92,6 +92,57 @@ def test_opens_stay(manager: Manager) -> None:
     assert again == (Opened(ONE, 11, 1, CreateAnswer(KEY, RWH)),)
     manager.cut(ONE)
     assert manager.scavenge(1) == (Ended(1),)
+
+
+def test_a_client_leaves_a_part(manager: Manager) -> None:
+    """One of its sessions goes, with an open that ends, one that stays, and a create that waits on another client's."""
+    opened(ONE, 10, KEY, RWH, manager, durable=True)
+    manager.create(ONE, 11, 5, Access.READ, Share.READ)
+    manager.create(TWO, 20, 6, Access.READ, Share.READ, CreateAsk(KEY, RWH))
+    broken = Breaks(TWO, Notification(KEY, RWH, RH, True), 1)
+    assert manager.create(ONE, 12, 6, Access.READ, Share.READ) == (broken, Waits(ONE, 12))
+    assert manager.leave(TWO, [1, 2], [12]) == () and manager.waiting(ONE, 12, 6)
+    assert manager.leave(ONE, [2, 1, 3, 4], [12, 99]) == (Ended(2), LeftBehind(1))
+    assert manager.connected(ONE) and not manager.waiting(ONE, 12, 6)
+    assert manager.acknowledge(TWO, Acknowledgment(KEY, RH)) == (Acknowledged(TWO, Response(KEY, RH)),)
+    assert manager.leave(ONE, []) == () and manager.leave(3, [3], [1]) == ()
+    with pytest.raises(ValueError):
+        manager.leave(ONE, [1 << 64])
+
+
+def test_what_a_leaving_client_had_is_free(manager: Manager) -> None:
+    opened(ONE, 10, KEY, RWH, manager)
+    opened(TWO, 20, OTHER_KEY, R, manager)
+    assert manager.leave(ONE, [1]) == (Ended(1), Opened(TWO, 20, 2, CreateAnswer(OTHER_KEY, R)))
+
+
+def test_others_give_up_all(manager: Manager) -> None:
+    """Once, straight to nothing, and not the key that the change comes by."""
+    opened(ONE, 10, KEY, RWH, manager)
+    assert manager.given_up(ONE, KEY, FILE, Extent.ALL) and manager.give_up(ONE, KEY, FILE, Extent.ALL) == ()
+    assert not manager.given_up(TWO, KEY, FILE, Extent.ALL)
+    assert manager.give_up(TWO, KEY, FILE, Extent.ALL) == (Breaks(ONE, Notification(KEY, RWH, NONE, True), 1),)
+    assert manager.give_up(TWO, None, FILE, Extent.ALL) == () and not manager.given_up(TWO, None, FILE, Extent.ALL)
+    manager.acknowledge(ONE, Acknowledgment(KEY, NONE))
+    assert manager.given_up(TWO, None, FILE, Extent.ALL)
+
+
+def test_others_give_up_handles(manager: Manager) -> None:
+    opened(ONE, 10, KEY, RH, manager, durable=True)
+    opened(TWO, 20, OTHER_KEY, RH, manager)
+    assert manager.cut(ONE) == (LeftBehind(1),)
+    assert not manager.given_up(TWO, OTHER_KEY, FILE, Extent.HANDLES) and manager.given_up(TWO, OTHER_KEY, 5, Extent.HANDLES)
+    assert manager.give_up(TWO, OTHER_KEY, FILE, Extent.HANDLES) == (Ended(1),)
+    assert manager.given_up(TWO, OTHER_KEY, FILE, Extent.HANDLES)
+    assert manager.give_up(ONE, None, FILE, Extent.HANDLES) == (Breaks(TWO, Notification(OTHER_KEY, RH, R, True), 1),)
+
+
+def test_what_may_be_done_at_once(manager: Manager) -> None:
+    manager.create(ONE, 10, FILE, Access.READ_WRITE, Share.READ_WRITE)
+    assert manager.may_read(ONE, 1) and manager.may_write(ONE, 1)
+    assert not manager.may_read(TWO, 1) and not manager.may_write(ONE, 2)
+    manager.create(TWO, 20, FILE, Access.READ, Share.READ_WRITE, CreateAsk(KEY, R))
+    assert manager.may_read(TWO, 2) and not manager.may_write(TWO, 2) and not manager.may_write(ONE, 1)
 
 
 def test_what_is_refused(manager: Manager) -> None:

@@ -10,7 +10,7 @@ from typing import Any
 import pytest
 
 from smblease import (Access, AcknowledgeDone, AcknowledgeFailed, AcknowledgeRequest, Acknowledgment, Break, Client, Closed,
-                      Context, CreateAnswer, CreateAsk, CreateRequest, Fault, LeaseState, Manager, Notification, Quiet,
+                      Context, CreateAnswer, CreateAsk, CreateRequest, Extent, Fault, LeaseState, Manager, Notification, Quiet,
                       ReadRequest, Response, Rules, Server, Share, Status, WriteDone, WriteRequest, append_context, each_context)
 
 GUID = uuid.UUID(int=1)
@@ -93,6 +93,10 @@ HALF = bytes((0, 0, 0, 0, 24, 0, 4)) + bytes(17) + b"DHnQ" + bytes(4)
     refused("file 2^64 of a manager", lambda: manager.withdraw(1, 10, LONG), word="file"),
     refused("an access of 0 of a manager", lambda: manager.create(1, 10, 1, 0, Share.READ), word="Access"),
     refused("a share of 4 of a manager", lambda: manager.create(1, 10, 1, Access.READ, 4), word="Share"),
+    refused("a FileId of 65 bits that a client leaves", lambda: manager.leave(1, [LONG]), word="file_id"),
+    refused("a tag of -1 that a client leaves", lambda: manager.leave(1, [], [-1]), word="tag"),
+    refused("an extent of 3", lambda: manager.give_up(1, None, 1, 3), word="Extent"),
+    refused("an extent of 0 that is asked about", lambda: manager.given_up(1, None, 1, 0), word="Extent"),
     refused("a manager's key as bytes", lambda: manager.expire(1, bytes(16)), TypeError, "uuid.UUID"),
     refused("a FileId of 65 bits in contexts", lambda: CreateAsk(reconnect=LONG).write(), word="reconnect"),
     refused("a name of 65,513 bytes", lambda: append_context(DURABLE, Context(bytes(65513), b"")), word="doesn't fit"),
@@ -134,7 +138,9 @@ MANAGER_CALLS: dict[str, tuple[Any, ...]] = {
     "create": (1, 10, 1, Access.READ, Share.READ), "read": (1, 10, 1), "write": (1, 10, 1), "close_open": (1, 10, 1),
     "acknowledge": (1, Acknowledgment(GUID, RH)), "acknowledge_malformed": (1,), "withdraw": (1, 10, 1), "connected": (1,),
     "breaking": (1, GUID), "waiting": (1, 10, 1), "left_behind": (1,), "has_open": (1,), "open_count": (),
-    "allowed": (1, None, 1, RW), "kept": (1, 1), "lease": (1, GUID), "opens": (), "__enter__": (),
+    "allowed": (1, None, 1, RW), "kept": (1, 1), "lease": (1, GUID), "opens": (), "leave": (1, [1], [10]),
+    "give_up": (1, None, 1, Extent.ALL), "given_up": (1, None, 1, Extent.ALL), "may_read": (1, 1), "may_write": (1, 1),
+    "__enter__": (),
 }
 # (these ask nothing of the machine)
 FREE = {"close", "closed", "key"}
