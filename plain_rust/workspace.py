@@ -51,8 +51,8 @@ PACKAGES = (
     Package(
         "leasecheck",
         (
-            *("capture_wire", "capture_judge", "capture_walk", "lease_reasons", "lease_texts", "capture_texts", "lease_lines"),
-            *("record_words", "text_laws", "leasecheck"),
+            *("capture_wire", "lease_wire_v2", "capture_judge", "capture_walk", "lease_reasons", "lease_texts", "capture_texts"),
+            *("lease_lines", "record_words", "text_laws", "leasecheck"),
         ),
     ),
 )
