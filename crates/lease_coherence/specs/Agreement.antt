@@ -35,7 +35,8 @@ pub record IsTimely (world : World) (client : ℕ) : Type 0 where
 -- A good client is one, with all its files.
 abbrev pub GoodClientsAreTimely : Type 0
 GoodClientsAreTimely = (rules : Rules) (setup : Setup) (events : List Event) (client : ℕ)
-    → is_good client (after (first_world_under rules setup) events).past ≡ true → IsTimely (after (first_world_under rules setup) events) client
+    → is_good client (after (first_world_under rules setup) events).past ≡ true
+    → IsTimely (after (first_world_under rules setup) events) client
 
 -- ---- one client and one file
 
@@ -185,7 +186,8 @@ HeldWritesAreThrough world client file =
 -- at every point of a run of an allowed setup
 abbrev pub OfAllowedRuns : (World → ℕ → Type 0) → Type 0
 OfAllowedRuns A = (rules : Rules) (setup : Setup) (events : List Event) (client : ℕ) → is_allowed_setup setup ≡ true
-    → has_strayed client (after (first_world_under rules setup) events).past ≡ false → A (after (first_world_under rules setup) events) client
+    → has_strayed client (after (first_world_under rules setup) events).past ≡ false
+    → A (after (first_world_under rules setup) events) client
 
 -- ---- over any link
 

@@ -49,7 +49,8 @@ EveryRunIsSafe = (rules : Rules) (setup : Setup) (events : List Event) → is_al
 
 abbrev pub OfRuns : (World → ℕ → Type 0) → Type 0
 OfRuns A = (rules : Rules) (setup : Setup) (events : List Event) (client : ℕ)
-    → has_strayed client (after (first_world_under rules setup) events).past ≡ false → A (after (first_world_under rules setup) events) client
+    → has_strayed client (after (first_world_under rules setup) events).past ≡ false
+    → A (after (first_world_under rules setup) events) client
 
 -- All that it names was told of before.
 abbrev pub NamesOfRuns : Type 0

@@ -18,7 +18,8 @@ pub record KeyedLease : Type 0 where
   pub key : Key
   pub lease : Lease
 
--- `rules` are those that the manager was given, `files` is the last number of a file. `queues` are of files where requests wait; `present` are the clients
+-- `rules` are those that the manager was given, `files` is the last number of a file. `queues` are of files where requests wait;
+-- `present` are the clients
 -- whose connection is there, `expired` the keys whose break timer ran out since their client joined.
 pub record Table : Type 0 where
   pub rules : Rules

@@ -16,7 +16,8 @@ byte_at-pow (suc k) x = refl
 
 byte_at-next : (k x : ℕ) → byte_at (suc k) x ≡ byte_at k (x / 256)
 byte_at-next k x =
-    let up : x / 256 ^ suc k ≡ x / 256 / 256 ^ k = ap (λ (p : ℕ). x / p) (pow-succ' 256 k) ∙ sym (div-div-eq-div-mul x 256 (256 ^ k)) in
+    let up : x / 256 ^ suc k ≡ x / 256 / 256 ^ k = ap (λ (p : ℕ). x / p) (pow-succ' 256 k)
+    ∙ sym (div-div-eq-div-mul x 256 (256 ^ k)) in
     rw (byte_at-pow (suc k) x, byte_at-pow k (x / 256), up) refl
 
 bytes_low_first-next : (j k x : ℕ) → bytes_low_first (suc j) k x ≡ bytes_low_first j k (x / 256)

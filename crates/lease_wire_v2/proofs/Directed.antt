@@ -36,14 +36,16 @@ first_directed direction context = grind arith
 either_length : (direction : Direction) (n m : ℕ) (x y : Meaning) → MeansDirected direction x → MeansDirected direction y
     → MeansDirected direction (if n == m then x else if n == 32 then y else WrongLength)
 either_length direction n m x y first second = if_either (MeansDirected direction) (n == m) x
-    (if n == 32 then y else WrongLength) first (if_either (MeansDirected direction) (n == 32) y WrongLength second (wrong direction))
+    (if n == 32 then y else WrongLength) first (if_either (MeansDirected direction) (n == 32) y WrongLength second
+    (wrong direction))
   where
     wrong : (direction : Direction) → MeansDirected direction WrongLength
     wrong Request = tt
     wrong Reply = tt
 
 lease_directed : (direction : Direction) (context : ContextView) → MeansDirected direction (lease_meaning direction context)
-lease_directed Request context = either_length Request (length context.body) 52 (Lease (second_lease (lease_in Request context.body)))
+lease_directed Request context = either_length Request (length context.body) 52
+    (Lease (second_lease (lease_in Request context.body)))
     (first_meaning (first_meaning_of Request context)) refl (first_directed Request context)
 lease_directed Reply context = either_length Reply (length context.body) 52 (Lease (second_lease (lease_in Reply context.body)))
     (first_meaning (first_meaning_of Reply context)) tt (first_directed Reply context)
@@ -68,13 +70,16 @@ meaning_directed direction context =
     let P : Meaning → Type 0 = MeansDirected direction in
     let is_reconnect : P reconnect = if_either P (bytes_eq context.name reconnect_name) (reconnect_meaning direction context.body)
     known (reconnect_directed direction context.body) (first_directed direction context) in
-    let is_durable : P durable = if_either P (bytes_eq context.name durable_name) (durable_meaning direction context.body) reconnect
+    let is_durable : P durable = if_either P (bytes_eq context.name durable_name) (durable_meaning direction context.body)
+    reconnect
     (durable_directed direction context.body) is_reconnect in
-    if_either P (bytes_eq context.name first.lease_name) (lease_meaning direction context) durable (lease_directed direction context)
+    if_either P (bytes_eq context.name first.lease_name) (lease_meaning direction context) durable
+    (lease_directed direction context)
     is_durable
 
 -- what holds of what each context says holds of the first of all that they say
-module _ {X : Type 0} (part : ContextView → Option X) (P : X → Type 0) (each : (context : ContextView) → IfSome (part context) P) where
+module _ {X : Type 0} (part : ContextView → Option X) (P : X → Type 0)
+    (each : (context : ContextView) → IfSome (part context) P) where
   by_part : (said : Option X) → IfSome said P → (contexts : List ContextView) (x : X) (xs : List X)
       → ((ys : List X) → filter_map part contexts ≡ x ∷ ys → P x)
       → cons_option said (filter_map part contexts) ≡ x ∷ xs → P x
@@ -117,5 +122,6 @@ never None is = refl
 never (Some x) is = absurd is
 
 pub without_reconnect : (contexts : List ContextView) (v : CreateView) → HaveValue Reply contexts v → v.reconnect ≡ None
-without_reconnect contexts v have = never v.reconnect (of_held (λ context. reconnect_part (meaning_of Reply context)) (λ reconnect. ⊥)
+without_reconnect contexts v have = never v.reconnect
+    (of_held (λ context. reconnect_part (meaning_of Reply context)) (λ reconnect. ⊥)
     (λ context. no_reconnect (meaning_of Reply context) (meaning_directed Reply context)) contexts v.reconnect have.reconnect)

@@ -32,7 +32,8 @@ flag_written : (n : ℕ) → bit_and n 2 ≡ n → persistent_flag (has_flag 2 n
 flag_written n named = flag_back n (subst (λ m. m ≤ 2) named (and_le_r n 2)) named
 
 -- a field that is known, as it is written
-back : (bytes : List ℕ) (place count value : ℕ) → AreBytes bytes → place + count ≤ length bytes → number_at place count bytes ≡ value
+back : (bytes : List ℕ) (place count value : ℕ) → AreBytes bytes → place + count ≤ length bytes → number_at place count bytes
+    ≡ value
     → little_bytes count value ≡ bytes_at place count bytes
 back bytes place count value are within known = rw (← known) (field_written place count bytes within are)
 

@@ -98,7 +98,8 @@ module _ (direction : Direction) (context : ContextView) where
   lease_part_of is = by_52 (length context.body == 52) refl
     where
       by_32 : (b : Bool) → (length context.body == 32) ≡ b
-          → IsPartOf (first_meaning_of direction context) (if b then first_meaning (first_meaning_of direction context) else WrongLength)
+          → IsPartOf (first_meaning_of direction context)
+          (if b then first_meaning (first_meaning_of direction context) else WrongLength)
       by_32 true long = its_own_part (first_meaning_of direction context)
       by_32 false other = passed_over (first_meaning_of direction context) WrongLength (of_other is other)
           (record { lease = refl; durable = refl; reconnect = refl })
@@ -106,7 +107,8 @@ module _ (direction : Direction) (context : ContextView) where
       by_52 : (b : Bool) → (length context.body == 52) ≡ b
           → IsPartOf (first_meaning_of direction context) (if b then Lease (second_lease (lease_in_v2 direction context.body))
           else if length context.body == 32 then first_meaning (first_meaning_of direction context) else WrongLength)
-      by_52 true long = passed_over (first_meaning_of direction context) (Lease (second_lease (lease_in_v2 direction context.body)))
+      by_52 true long = passed_over (first_meaning_of direction context)
+          (Lease (second_lease (lease_in_v2 direction context.body)))
           (of_52 is long) (record { lease = refl; durable = refl; reconnect = refl })
       by_52 false other = by_32 (length context.body == 32) refl
 
@@ -168,18 +170,21 @@ module _ {X Y : Type 0} (all : ContextView → Option X) (some : ContextView →
 no_wrong : (direction : Direction) (contexts : List ContextView) → values_of_kind direction wrong_part contexts ≡ []
     → first.values_of_kind direction wrong_length_in contexts ≡ []
 no_wrong direction [] none = refl
-no_wrong direction (context ∷ contexts) none = by_part (wrong_part (meaning_of direction context)) refl none (no_wrong direction contexts)
+no_wrong direction (context ∷ contexts) none = by_part (wrong_part (meaning_of direction context)) refl none
+    (no_wrong direction contexts)
   where
     by_part : (said : Option Bool) → wrong_part (meaning_of direction context) ≡ said
         → cons_option said (values_of_kind direction wrong_part contexts) ≡ []
         → (values_of_kind direction wrong_part contexts ≡ [] → first.values_of_kind direction wrong_length_in contexts ≡ [])
-        → cons_option (wrong_length_in (first_meaning_of direction context)) (first.values_of_kind direction wrong_length_in contexts)
+        → cons_option (wrong_length_in (first_meaning_of direction context))
+        (first.values_of_kind direction wrong_length_in contexts)
         ≡ []
     by_part None is e further = rw ((context_part direction context).lengths is) (further e)
     by_part (Some said) is e further = cc e
 
 durable_held : (held : Option DurableView)
-    → option_to_list (option_and_then first_durable_in held) ≡ (if is_some (option_and_then first_durable_in held) then true ∷ [] else [])
+    → option_to_list (option_and_then first_durable_in held)
+    ≡ (if is_some (option_and_then first_durable_in held) then true ∷ [] else [])
 durable_held None = refl
 durable_held (Some First) = refl
 durable_held (Some (Asked durable)) = refl
@@ -189,7 +194,8 @@ first_held : (direction : Direction) (contexts : List ContextView) (v : CreateVi
     → first.HaveValue direction contexts (first_part v)
 first_held direction contexts v have = record {
   lengths = no_wrong direction contexts have.lengths;
-  lease = part_held (λ context. lease_part (meaning_of direction context)) (λ context. lease_in (first_meaning_of direction context))
+  lease = part_held (λ context. lease_part (meaning_of direction context))
+      (λ context. lease_in (first_meaning_of direction context))
       first_lease_in (λ context. (context_part direction context).lease) contexts v.lease have.lease;
   durable = part_held (λ context. durable_part (meaning_of direction context))
       (λ context. durable_in (first_meaning_of direction context)) first_durable_in

@@ -99,7 +99,8 @@ cut_laid start (piece ∷ next ∷ pieces) [] context behind (is, on, laid) =
     cut_here start piece (next ++ concat pieces) context is (ends_on piece (next ++ concat pieces) is.header on)
 cut_laid start (piece ∷ []) (first ∷ front) context behind (is, last, none) = absurd (not_empty front context behind none)
   where
-    not_empty : (front : List ContextView) (context : ContextView) (behind : List ContextView) → front ++ context ∷ behind ≡ [] → ⊥
+    not_empty : (front : List ContextView) (context : ContextView) (behind : List ContextView) → front ++ context ∷ behind
+        ≡ [] → ⊥
     not_empty [] context behind e = cc
     not_empty (first ∷ front) context behind e = cc
 cut_laid start (piece ∷ next ∷ pieces) (first ∷ front) context behind (is, on, laid) =

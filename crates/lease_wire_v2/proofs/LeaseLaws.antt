@@ -62,7 +62,8 @@ module _ (state : State) (epoch : ℕ) (fits : epoch < 2 ^ 16) where
 
   below : (direction : Direction) (breaking : Bool) → IsCalm direction breaking → (parent : List ℕ) → length parent ≡ 16
       → (key : List ℕ) → length key ≡ 16 → Back direction (leased state breaking epoch (Some parent) key)
-  below Request breaking calm parent set key long = sixteen_cells (λ key. Back Request (leased state breaking epoch (Some parent) key))
+  below Request breaking calm parent set key long = sixteen_cells
+      (λ key. Back Request (leased state breaking epoch (Some parent) key))
       (λ a b c d e f g h i j k l m n o p. sixteen_cells (λ parent. Back Request (leased state breaking epoch (Some parent)
       (a ∷ b ∷ c ∷ d ∷ e ∷ f ∷ g ∷ h ∷ i ∷ j ∷ k ∷ l ∷ m ∷ n ∷ o ∷ p ∷ [])))
       (λ a' b' c' d' e' f' g' h' i' j' k' l' m' n' o' p'.
@@ -84,9 +85,11 @@ module _ (state : State) (epoch : ℕ) (fits : epoch < 2 ^ 16) where
 pub lease_reads_back : LeaseReadsBack
 lease_reads_back direction lease is = by_parent lease.parent is.parent
   where
-    by_parent : (parent : Option (List ℕ)) → IfSome parent (λ key. length key ≡ 16) → Back direction (record lease { parent = parent })
+    by_parent : (parent : Option (List ℕ)) → IfSome parent (λ key. length key ≡ 16)
+        → Back direction (record lease { parent = parent })
     by_parent None set = alone lease.state lease.epoch is.epoch direction lease.breaking is.calm lease.key is.key
-    by_parent (Some parent) set = below lease.state lease.epoch is.epoch direction lease.breaking is.calm parent set lease.key is.key
+    by_parent (Some parent) set = below lease.state lease.epoch is.epoch direction lease.breaking is.calm parent set lease.key
+        is.key
 
 -- ---- what is read is written back
 
@@ -150,7 +153,8 @@ module _ (direction : Direction) (bytes : List ℕ) (is : IsCanonicalLease direc
   -- a field that is known, as it is written
   back : (place count value : ℕ) → place + count ≤ 52 → number_at place count bytes ≡ value
       → little_bytes count value ≡ bytes_at place count bytes
-  back place count value within known = let size = is.size in rw (← known) (field_written place count bytes (omega arith) is.octets)
+  back place count value within known = let size = is.size
+      in rw (← known) (field_written place count bytes (omega arith) is.octets)
 
   parent_back : (flagged : Bool) → has_flag 4 (number_at 20 4 bytes) ≡ flagged
       → parent_bytes (if flagged then Some (bytes_at 32 16 bytes) else None) ≡ bytes_at 32 16 bytes

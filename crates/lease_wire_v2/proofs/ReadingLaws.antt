@@ -186,7 +186,8 @@ module _ (direction : Direction) (text : List ℕ) where
   unfolding context_at
   broken_at fault contexts breaks some cut =
       let place : breaks.context.place ≡ length (concat cut.pieces) = ap (λ context. context.place) (sym cut.is) ∙ zero-add _ in
-      let none : layout_fault (length (concat cut.pieces)) cut.rest ≡ None = rw (zero-add (length (concat cut.pieces))) at cut.none in
+      let none : layout_fault (length (concat cut.pieces)) cut.rest
+      ≡ None = rw (zero-add (length (concat cut.pieces))) at cut.none in
       let is : context_at (length (concat cut.pieces)) cut.rest
       ≡ breaks.context = rw (zero-add (length (concat cut.pieces))) at cut.is in (
         some,
@@ -222,7 +223,8 @@ module _ (direction : Direction) (text : List ℕ) where
       by_fault other pieces contexts rest stops (inl (w, have)) =
           let read = gathered-all direction contexts [] no_values w (Err other ∷ []) (value_of_nothing direction) have
           ∙ gathered-fault direction w other [] in
-          let same : Wire other ≡ fault = same_err (Wire other) fault (sym (items_given direction text _ _ stops.given read) ∙ e) in (
+          let same : Wire other ≡ fault = same_err (Wire other) fault
+          (sym (items_given direction text _ _ stops.given read) ∙ e) in (
             some,
             (
               pieces,

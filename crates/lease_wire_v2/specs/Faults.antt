@@ -1,4 +1,5 @@
--- Why a text holds no create contexts of either version: the first fault in its order, and where (own: the order of the tests, and
+-- Why a text holds no create contexts of either version: the first fault in its order, and where (own: the order of the tests,
+-- and
 -- one fault for the whole text).
 use Rattle.std.specs.Prelude.{◌≡◌, ◌≢◌, ℕ, Bool, true, false, if◌then◌else◌, List, [], ◌++◌, length, Option, Some, None}
 use Rattle.std.specs.List.{concat}

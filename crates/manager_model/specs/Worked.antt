@@ -129,7 +129,8 @@ LeftIsTold = told_along first_manager left_calls ≡
     ∷ (Decision.Ended 2 ∷ [])
     ∷ []
 
--- A client leaves a durable open, one that isn't, and a create that waits, and stays: the first waits for it, the second ends, and
+-- A client leaves a durable open, one that isn't, and a create that waits, and stays: the first waits for it, the second ends,
+-- and
 -- of the create nothing is told once the other client has closed its open. Another of its creates is answered.
 abbrev pub leaving_calls : List Coming
 leaving_calls =

@@ -120,10 +120,12 @@ call_made laws manager told kept new outs way settled =
     let now = managed (managed.manager_of old.manager) coming in
     let call = call_of (managed.manager_of old.manager) coming in
     let after = called (server_of old) call in
-    let law = laws.hosts (requests_in old.kept.requests) (managed.manager_of old.manager) (host_of old.kept) (server_of old) coming
+    let law = laws.hosts (requests_in old.kept.requests) (managed.manager_of old.manager) (host_of old.kept) (server_of old)
+    coming
     (are_server old is) comes.free in
     let done : hosted_of settled.middle outs ≡ hosted requests (host_of old.kept) now =
-    settled.done.done ∙ ap₂ (λ (r : ℕ → FileRequest) (h : Host). does_all r told (record { host = h; outs = [] })) comes.requests comes.host
+    settled.done.done ∙ ap₂ (λ (r : ℕ → FileRequest) (h : Host). does_all r told (record { host = h; outs = [] }))
+    comes.requests comes.host
     ∙ ap (λ d. does_all requests d (record { host = host_of old.kept; outs = [] })) said in
     let are : AreServer requests (managed.manager_of manager) (host_of settled.middle) after.server =
     subst (λ (m : Manager). AreServer requests m (host_of settled.middle) after.server) (sym same)
@@ -139,7 +141,8 @@ call_made laws manager told kept new outs way settled =
     ∙ waits_unanswered one file now (once one.tag) (subst (Among one) (queues file) there))
     ∙ ap (λ (r : ℕ → FileRequest). r one.tag) comes.requests in
     let asked : (file : ℕ) → AreAsked (requests_in new.requests) (managed.queue_at manager.queues file) =
-    λ file. asked_alike requests (requests_in new.requests) (managed.queue_at manager.queues file) (stays file) (are.asked file) in
+    λ file. asked_alike requests (requests_in new.requests) (managed.queue_at manager.queues file) (stays file)
+    (are.asked file) in
     let opens : after.server.opens ≡ manager.opens = ap (λ (s : Server). s.opens) (sym are.without_bytes) in
     let serves : AreServer (requests_in new.requests) (managed.manager_of manager) (host_of new) after.server = record {
       without_bytes = are.without_bytes;
@@ -281,6 +284,7 @@ pub faulty_create : (old : Table) (client file : ℕ) (access : Access) (share :
 faulty_create old client file access share fault found outs given is up faulty none told =
     subst (λ (r : Result CreateView WireFault). IsCalled old
     (Call.Receive client (Request.OnFile (FileRequest.Create file access share (ask_found r)))) old given) faulty
-    (subst (λ (o : List Out). IsCalled old (Call.Receive client (Request.OnFile (FileRequest.Create file access share None))) old o)
+    (subst (λ (o : List Out). IsCalled old (Call.Receive client (Request.OnFile (FileRequest.Create file access share None)))
+    old o)
     (sym (told ∙ ap (λ (o : List Out). o ++ Out.Sent client (Reply.CreateFailed file Status.InvalidParameter) ∷ []) none))
     (refused_create old client file access share is up))

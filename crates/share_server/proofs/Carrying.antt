@@ -69,7 +69,8 @@ one_done_more told decision first old new start before after once earlier last =
 }
 
 -- the next of a list of decisions, in the code's words
-pub next_done : (told : List code.Decision) (i : ℕ) (decision : code.Decision) (first old new : Kept) (start before after : List Out)
+pub next_done : (told : List code.Decision) (i : ℕ) (decision : code.Decision) (first old new : Kept)
+    (start before after : List Out)
     → i < length told → decision ≡ get_or told i decision → ((tag : ℕ) → answers tag (decisions told) ≤ 1)
     → HasDone (decisions (take i told)) first old start before → HasDone (decision_of decision ∷ []) old new before after
     → HasDone (decisions (take (i + 1) told)) first new start after

@@ -27,7 +27,8 @@ use Rattle.lease_coherence.proofs.within.Leases.{ack_more, less_asked}
 -- of another key
 other_gone : (key : List ℕ) (file : ℕ) (lease : Lease) (phase : Phase) (given : LeaseOf) (left : List Request)
     (queue : List Reply) → bytes_eq key given.key ≡ false
-    → IsExplained key file lease phase (Request.Acknowledge (Some given) ∷ left) queue → IsExplained key file lease phase left queue
+    → IsExplained key file lease phase (Request.Acknowledge (Some given) ∷ left) queue
+    → IsExplained key file lease phase left queue
 other_gone key file lease phase given left queue other e = less_explained key file lease phase
     (Request.Acknowledge (Some given) ∷ left) left queue
     ((omega arith) ∙ ap (λ x. one_if x + acks key left) (sym other)) (λ P each. each.1) e
@@ -156,7 +157,8 @@ done_trusted world c given oldest t = record {
       trusted_by (popped world c) (leased_in (popped world c) (key_of c given.key) lease (done_reply given)) c file refl
       refl refl (λ one own up a. a) (subst (IsExplained (file_key world c file) file
       (put_key world.server.leases (key_of c given.key) lease (machine_key world c file))
-      ((world.clients c).entries file).phase ((popped world c).requests c)) (sym sent) (plain_explained (file_key world c file) file
+      ((world.clients c).entries file).phase ((popped world c).requests c)) (sym sent)
+      (plain_explained (file_key world c file) file
       (put_key world.server.leases (key_of c given.key) lease (machine_key world c file))
       ((world.clients c).entries file).phase ((popped world c).requests c) (world.replies c) (done_reply given) tt
       (λ breaks. tt) refl (subst (λ q. IsExplained (file_key world c file) file

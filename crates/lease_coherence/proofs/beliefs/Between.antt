@@ -261,7 +261,10 @@ reached_forms = two_forms (Both IsCountedWorld HasLayers) (Both IsTimely Agrees)
     (two_forms IsTimely Agrees timely_forms (kept_forms Agrees agrees_kept))
 
 first_reached : (rules : Rules) (setup : Setup) → IsReached (first_world_under rules setup)
-first_reached rules setup = ((first_counted rules setup, first_layers rules setup), (first_timely rules setup, first_agrees rules setup))
+first_reached rules setup = (
+  (first_counted rules setup, first_layers rules setup),
+  (first_timely rules setup, first_agrees rules setup),
+)
 
 sound_in : (world : World) → IsReached world → (c : ℕ) → IsSoundClient (world.clients c)
 sound_in world r = (r.0).1.ground.clients
@@ -339,5 +342,6 @@ first_always rules setup = starts_always (reverse (starts_from 1 setup.files))
 pub runs_have_one_write_cache : RunsHaveOneWriteCache
 runs_have_one_write_cache rules setup events = subst (EachBeginning OneWriteCache)
     (sym (reverse-reverse (after (first_world_under rules setup) events).past))
-    (kept_by_run (Both IsReached AlwaysIn) (both_forms IsReached AlwaysIn reached_forms always_forms) (first_world_under rules setup) events
+    (kept_by_run (Both IsReached AlwaysIn) (both_forms IsReached AlwaysIn reached_forms always_forms)
+    (first_world_under rules setup) events
     (first_reached rules setup, first_always rules setup)).1

@@ -186,7 +186,8 @@ believing machine s = record {
   parked = parked_takes machine;
   lowered = lowered_takes machine;
   granted = granted_takes machine;
-  still = λ reply step none still. plain_takes machine reply step (no_lone machine reply none) (still_believes machine step still);
+  still = λ reply step none still. plain_takes machine reply step (no_lone machine reply none)
+      (still_believes machine step still);
 }
 
 pub take_believes : (machine : Client) → IsSoundClient machine → (reply : Reply) → TakesBelief machine reply (taken machine reply)

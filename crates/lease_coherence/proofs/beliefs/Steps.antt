@@ -81,7 +81,8 @@ step_anchor world new c file machine step is on s fresh before known =
     fresh s l.till)) (on file))
     (λ a. ⊎_elim (λ zero. absurd (omega (arith, zero, a.one)))
     (λ (x : IsAnchored world c file). inr (anchored_in world new c file machine step.requests is x.file_id x.opened
-    (open_behind key x.file_id (world.requests c) step.requests a.one x.till) x.held)) known.anchor) known.explained.believed.answers
+    (open_behind key x.file_id (world.requests c) step.requests a.one x.till) x.held)) known.anchor)
+    known.explained.believed.answers
 
 pub step_trusted : (world : World) (c : ℕ) (step : Step) (before : List Reply) → is_up (world.links c) ≡ true
     → step.client.guid ≡ (world.clients c).guid → AnchorsOn (world.clients c) step

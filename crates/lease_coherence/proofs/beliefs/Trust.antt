@@ -161,7 +161,8 @@ left_anchor world c file at before behind request lane held a = record {
     till = a.till;
     held = λ f x b own. ⊎_elim (λ old. a.held f x old own)
         (λ left. a.held at x (subst (λ (l : List Held). Among x l) (sym held)
-        (among_more x (held_of c request lane) before behind left.1)) own) (among_put world.server.held at (before ++ behind) f x b);
+        (among_more x (held_of c request lane) before behind left.1)) own)
+        (among_put world.server.held at (before ++ behind) f x b);
   };
   stays = a.held at (held_of c request lane) (subst (λ (l : List Held). Among (held_of c request lane) l) (sym held)
       (among_behind (held_of c request lane) before (held_of c request lane ∷ behind) (inl refl))) refl;
@@ -191,7 +192,8 @@ pub off_trusted : (world off : World) (c file : ℕ) (request : FileRequest) →
     → IsTrustedFor world c file → IsTrustedFor off c file
 off_trusted world off c file request source t = ⊎_elim
     (λ a. subst (λ o. IsTrustedFor o c file) (sym a.is_off) (popped_trusted world c file request a.oldest t))
-    (λ h. subst (λ o. IsTrustedFor o c file) (sym h.is_off) (left_trusted world c file h.file h.before h.behind request h.lane h.held t))
+    (λ h. subst (λ o. IsTrustedFor o c file) (sym h.is_off)
+    (left_trusted world c file h.file h.before h.behind request h.lane h.held t))
     source.from
 
 -- ---- what is sent

@@ -97,7 +97,8 @@ source_counts world off c request g source file = ⊎_elim
           arith,
           create_here world.server h.file file request (g.fine.orderly.held_about h.file (held_of c request h.lane)
               (subst (λ (l : List Held). Among (held_of c request h.lane) l) (sym h.held)
-              (among_behind (held_of c request h.lane) h.before (held_of c request h.lane ∷ h.behind) (inl refl)))) (λ e. ne (sym e)),
+              (among_behind (held_of c request h.lane) h.before (held_of c request h.lane ∷ h.behind) (inl refl))))
+              (λ e. ne (sym e)),
           ap
               (λ (l : List Held). creates file (world.requests c) + held_creates file (held_by c l))
               (sym (put_other world.server.held h.file (h.before ++ h.behind) file ne)),

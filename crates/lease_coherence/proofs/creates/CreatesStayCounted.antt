@@ -32,7 +32,8 @@ creates_move = record {
   granted = λ world off c file access share ask k source none on free a.
       let lease = lease_after off.server c file ask.lease in
       replied_at world off (granted_in off c file access share ask lease) c
-      (FileRequest.Create file access share (Some ask)) (granted_reply off.server file ask lease) k.all.ground source refl refl refl
+      (FileRequest.Create file access share (Some ask)) (granted_reply off.server file ask lease) k.all.ground source refl
+      refl refl
       (lease_put_rest off.server c ask.lease (lease_after off.server c file ask.lease)
       (λ s. s.held ≡ off.server.held) (λ l. refl)) refl (λ f. refl) a;
   reconnected = λ world off c file access share ask file_id k source again on waits a.

@@ -416,7 +416,8 @@ answer_fresh : (world off : World) (c : ℕ) (request : FileRequest) (reply : Re
     → IsToldOf off c request reply → Ground world → HasContents world → (file : ℕ)
     → takings c off.past ≤ length (sendings c off.past) → IsFreshIn off c file → IsFreshIn (told_to off c reply) c file
 answer_fresh world off c request reply source (IsToldOf.Refused asked status may) g h file low f = told_fresh off c
-    (refusal_of asked status) file (told_bare off c asked _ (IsToldOf.Refused asked status may)) (refusal_still asked status) low f
+    (refusal_of asked status) file (told_bare off c asked _ (IsToldOf.Refused asked status may)) (refusal_still asked status)
+    low f
 answer_fresh world off c request reply source (IsToldOf.Full of_file access share ask) g h file low f =
     told_fresh off c (Reply.CreateFailed of_file Status.InsufficientResources) file tt tt low f
 answer_fresh world off c request reply source (IsToldOf.Read file_id one found may) g h file low f =
@@ -432,7 +433,8 @@ fresh_moves = record {
       (a file (sym (u.expired (machine_key world c file) refl)
       ∙ ap (λ (m : Client). new.server.expired (key_of c (lease_key m.guid file))) (sym u.machine) ∙ fresh));
   told = λ world off c request reply k source is a file fresh. answer_fresh world off c request reply source is
-      (ground_of world k.all) k.all.contents file (off_low world off c request source (low_of world (ground_of world k.all) c k.when))
+      (ground_of world k.all) k.all.contents file (off_low world off c request source
+      (low_of world (ground_of world k.all) c k.when))
       (off_fresh_in world off c file request source (a file (off_fresh world off c file request source fresh)));
   granted = λ world off c file access share ask k source none on free a at fresh.
       let request = FileRequest.Create file access share (Some ask) in

@@ -51,8 +51,10 @@ sending_among : (c : ℕ) (past place : List Fact) → last_sending c past ≡ S
 unfolding last_sending
 sending_among c past place e = last_among (takings c past) (sendings c past) place e
 
-pub timely : (rules : Rules) (setup : Setup) (events : List Event) (c file : ℕ) → is_served c (after (first_world_under rules setup) events).past ≡ true
-    → (after (first_world_under rules setup) events).server.expired (machine_key (after (first_world_under rules setup) events) c file) ≡ false
+pub timely : (rules : Rules) (setup : Setup) (events : List Event) (c file : ℕ)
+    → is_served c (after (first_world_under rules setup) events).past ≡ true
+    → (after (first_world_under rules setup) events).server.expired
+    (machine_key (after (first_world_under rules setup) events) c file) ≡ false
 timely rules setup events = unexpired (after (first_world_under rules setup) events)
     (kept_by_run IsTimely timely_forms (first_world_under rules setup) events (first_timely rules setup))
 
@@ -67,8 +69,10 @@ reached_forms = two_forms (Both IsCountedWorld HasRecord) (Both IsTimely (Both I
     (two_forms IsBegun Given (kept_forms IsBegun begun_kept) (kept_forms Given given_kept)))
 
 first_reached : (rules : Rules) (setup : Setup) → is_allowed_setup setup ≡ true → IsReached (first_world_under rules setup)
-first_reached rules setup allowed =
-    ((first_counted rules setup, first_record rules setup allowed), (first_timely rules setup, (first_begun rules setup, first_given rules setup)))
+first_reached rules setup allowed = (
+  (first_counted rules setup, first_record rules setup allowed),
+  (first_timely rules setup, (first_begun rules setup, first_given rules setup)),
+)
 
 read_is_fresh : (world : World) → IsReached world → (c at : ℕ) (live : LiveEntry)
     (base : List ℕ) → IsEntry (world.clients c) at (Phase.Live live) → live.base ≡ Some base
@@ -179,8 +183,10 @@ fresh_forms = record {
 
 pub reads_are_fresh : InRuns FreshRead
 unfolding first_world_under
-reads_are_fresh rules setup events allowed = subst (EachFact FreshRead) (sym (reverse-reverse (after (first_world_under rules setup) events).past))
-    (kept_by_run (Both IsReached FreshIn) (both_forms IsReached FreshIn reached_forms fresh_forms) (first_world_under rules setup) events (
+reads_are_fresh rules setup events allowed = subst (EachFact FreshRead)
+    (sym (reverse-reverse (after (first_world_under rules setup) events).past))
+    (kept_by_run (Both IsReached FreshIn) (both_forms IsReached FreshIn reached_forms fresh_forms)
+    (first_world_under rules setup) events (
       first_reached rules setup allowed,
       starts_fresh (reverse (starts_from 1 setup.files))
           (all_reversed (starts_from 1 setup.files) [] (all_starts 1 setup.files) refl),

@@ -116,7 +116,8 @@ first_none rules setup = starts_none 1 setup.files [] tt
 pub run_late : (rules : Rules) (setup : Setup) (events : List Event) → is_allowed_setup setup ≡ true
     → Both HasRecord NoneLate (after (first_world_under rules setup) events)
 run_late rules setup events allowed = runs_have (Both HasRecord NoneLate) (λ world v. ground_in world v.0)
-    (carried_both HasRecord NoneLate record_carried none_moves) rules setup (first_record rules setup allowed, first_none rules setup) events
+    (carried_both HasRecord NoneLate record_carried none_moves) rules setup
+    (first_record rules setup allowed, first_none rules setup) events
 
 pub no_write_is_late : InRuns NoLateWrite
 no_write_is_late rules setup events allowed = subst (EachFact NoLateWrite)

@@ -139,7 +139,8 @@ late_moves = record {
   begin = λ world key lowered k may heavy a.
       begin_late world key lowered (ids_in world k.all key.client) (names_in world k.all key.client k.good) a;
   timer = λ world c at k on breaks a. timer_late world c at (ids_in world k.all c) (names_in world k.all c k.good) a;
-  command = λ world c command k a. command_late world c command (known_by world k.all c k.good) (λ up. up_in world k.all c k.good up) a;
+  command = λ world c command k a. command_late world c command (known_by world k.all c k.good)
+      (λ up. up_in world k.all c k.good up) a;
   take = λ world c reply queue k first a. let up = takes_up world k.all c reply queue first in
       take_late world c reply queue first up (up_in world k.all c k.good up) a;
 }

@@ -112,4 +112,5 @@ first_record rules setup allowed = record {
 
 pub run_record : (rules : Rules) (setup : Setup) (events : List Event) → is_allowed_setup setup ≡ true
     → HasRecord (after (first_world_under rules setup) events)
-run_record rules setup events allowed = runs_have HasRecord ground_of record_carried rules setup (first_record rules setup allowed) events
+run_record rules setup events allowed = runs_have HasRecord ground_of record_carried rules setup
+    (first_record rules setup allowed) events

@@ -273,5 +273,7 @@ after_moves V ground k world events c v =
 
 -- what the moves keep, every run has
 pub runs_have : (V : World → Type 0) → ((world : World) → V world → Ground world) → IsCarried V
-    → (rules : Rules) (setup : Setup) → V (first_world_under rules setup) → (events : List Event) → V (after (first_world_under rules setup) events)
-runs_have V ground k rules setup v events = after_moves V ground k (first_world_under rules setup) events (first_counted rules setup) v
+    → (rules : Rules) (setup : Setup) → V (first_world_under rules setup) → (events : List Event)
+    → V (after (first_world_under rules setup) events)
+runs_have V ground k rules setup v events = after_moves V ground k (first_world_under rules setup) events
+    (first_counted rules setup) v

@@ -90,15 +90,18 @@ pub record IsOwnMoved (V : World → Type 0) (W : World → ℕ → Type 0) (A :
       → IsSource world off c (FileRequest.Create file access share (Some ask)) → ask.reconnect ≡ Some file_id
       → has_file off.server file ≡ true → IsAwaitedAt off.server c file (own_key c ask.lease) file_id → A world c
       → A (reconnected_in off c file ask file_id) c
-  pub changed : (world off : World) (c file_id number : ℕ) (patch : Patch) (one : Open) → IsKnownOf V W world c → IsSource world off c (FileRequest.Write file_id number patch)
+  pub changed : (world off : World) (c file_id number : ℕ) (patch : Patch) (one : Open) → IsKnownOf V W world c
+      → IsSource world off c (FileRequest.Write file_id number patch)
       → connected_open off.server c file_id ≡ Some one → MayChange off.server patch one → A world c
       → A (changed_in off c one.file file_id number patch) c
   pub closed : (world off : World) (c file_id : ℕ) (one : Open) → IsKnownOf V W world c
       → IsSource world off c (FileRequest.Close file_id) → connected_open off.server c file_id ≡ Some one → A world c
       → A (told_to (without_opens off (λ other. other.file_id == file_id)) c (Reply.Closed file_id)) c
-  pub ack_failed : (world : World) (c : ℕ) (given : Option LeaseOf) (status : Status) → IsKnownOf V W world c → IsOldest world c (Request.Acknowledge given)
+  pub ack_failed : (world : World) (c : ℕ) (given : Option LeaseOf) (status : Status) → IsKnownOf V W world c
+      → IsOldest world c (Request.Acknowledge given)
       → IsRefusedAck world.server c given → A world c → A (told_to (popped world c) c (Reply.AckFailed status)) c
-  pub ack_done : (world : World) (c : ℕ) (given : LeaseOf) (lowered : State) → IsKnownOf V W world c → IsOldest world c (Request.Acknowledge (Some given))
+  pub ack_done : (world : World) (c : ℕ) (given : LeaseOf) (lowered : State) → IsKnownOf V W world c
+      → IsOldest world c (Request.Acknowledge (Some given))
       → has_lease world.server (key_of c given.key) ≡ true → (world.server.leases (key_of c given.key)).broken_to ≡ Some lowered
       → is_state_within given.state lowered ≡ true → A world c → A (leased_in (popped world c) (key_of c given.key)
       (record { state = granted_form_of given.state; broken_to = None })
@@ -122,7 +125,8 @@ pub record IsOwnMoved (V : World → Type 0) (W : World → ℕ → Type 0) (A :
       → A (timed_out world c file) c
   pub command : (world : World) (c : ℕ) (command : Command) → IsKnownOf V W world c
       → A world c → A (stepped_in world c (commanded (world.clients c) command)) c
-  pub take : (world : World) (c : ℕ) (reply : Reply) (queue : List Reply) → IsKnownOf V W world c → world.replies c ≡ reply ∷ queue → A world c → A (reply_taken world c reply queue) c
+  pub take : (world : World) (c : ℕ) (reply : Reply) (queue : List Reply) → IsKnownOf V W world c → world.replies c
+      ≡ reply ∷ queue → A world c → A (reply_taken world c reply queue) c
 
 -- moves of the client's link
 pub record IsLinkMoved (V : World → Type 0) (A : World → ℕ → Type 0) : Type 0 where

@@ -310,9 +310,11 @@ first_true rules setup = (
   starts_true 1 setup.files [] tt,
 )
 
-pub run_true : (rules : Rules) (setup : Setup) (events : List Event) → Both Ground HasTrueNames (after (first_world_under rules setup) events)
+pub run_true : (rules : Rules) (setup : Setup) (events : List Event)
+    → Both Ground HasTrueNames (after (first_world_under rules setup) events)
 run_true rules setup events = runs_have (Both Ground HasTrueNames) (λ world both. both.0)
-    (carried_both Ground HasTrueNames ground_carried true_moves) rules setup (first_ground rules setup, first_true rules setup) events
+    (carried_both Ground HasTrueNames ground_carried true_moves) rules setup
+    (first_ground rules setup, first_true rules setup) events
 
 pub nothing_is_falsely_done : NothingIsFalselyDone
 nothing_is_falsely_done rules setup events allowed = let names = (run_true rules setup events).1 in

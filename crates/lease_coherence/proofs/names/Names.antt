@@ -140,7 +140,8 @@ off_named world off client request c source n = ⊎_elim
           (among_more one _ h.before h.behind left.1)) own))
           (among_put world.server.held h.file (h.before ++ h.behind) file one a)) n.opens n.replies n,
       (λ same. (n.held h.file (held_of client request h.lane) (subst (λ (l : List Held). Among (held_of client request h.lane) l)
-          (sym h.held) (among_behind (held_of client request h.lane) h.before (held_of client request h.lane ∷ h.behind) (inl refl)))
+          (sym h.held) (among_behind (held_of client request h.lane) h.before (held_of client request h.lane ∷ h.behind)
+          (inl refl)))
           (sym same)).named),
     )) source.from
   where
@@ -321,7 +322,8 @@ deeds_named world g named = record {
         last_named x same own =
             let mine : one.client ≡ c = sym (ap (λ (h : Held). h.client) same) ∙ own in
             let named : IsNamedOnFile c (w.clients c).guid w.past one.request =
-            (subst (Each (IsNamedRequest c (w.clients c).guid w.past)) (ap w.requests (sym mine) ∙ oldest.is_first) n.requests).0 in
+            (subst (Each (IsNamedRequest c (w.clients c).guid w.past)) (ap w.requests (sym mine) ∙ oldest.is_first)
+            n.requests).0 in
             subst (IsNamedHeld c (w.clients c).guid w.past file) (sym same) (record {
               named = named;
               lane = turn.1 ∙ ap (λ d. lane_of w.server d one.request) mine

@@ -250,7 +250,8 @@ first_of c (y ∷ held) e = either (y.client == c)
 pub first_waits_behind_none : (rules : Rules) (c : ℕ) (held : List Held) (f : IsFirstOf c held)
     → is_behind rules f.one f.before ≡ false
 first_waits_behind_none rules c held f = has_none (waits_behind rules f.one) f.before (λ x a.
-    not_true (waits_behind rules f.one x) (λ waits. clash (x.client == (f.one).client) (and_parts (x.client == (f.one).client) _ waits).0
+    not_true (waits_behind rules f.one x) (λ waits. clash (x.client == (f.one).client)
+    (and_parts (x.client == (f.one).client) _ waits).0
     (ap (λ d. x.client == d) f.own ∙ f.none x a)))
 
 pub first_among : (c : ℕ) (held : List Held) (f : IsFirstOf c held) → Among f.one held

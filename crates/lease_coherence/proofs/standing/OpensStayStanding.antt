@@ -316,7 +316,8 @@ standing_moves = record {
       (subst (λ q. StepStands gone c q (taken (world.clients c) reply)) (sym left)
       (any_reply (world.clients c) (TakeStands gone c queue)
       (takes_stand gone c queue (subst (AllEntries gone c) left (entries_of gone c s))) reply
-      (first_given world c reply queue first a) (answers_last world c reply queue k.all.ground k.when (k.all.creates c k.good) first)))
+      (first_given world c reply queue first a) (answers_last world c reply queue k.all.ground k.when (k.all.creates c k.good)
+      first)))
       s;
 }
   where

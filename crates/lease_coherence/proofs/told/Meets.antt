@@ -129,7 +129,8 @@ meets_now world c file lowered reply queue w first live is =
       asks = b.asks;
       tells = sym w.breaking ∙ told b.notice (subst (TellsState (file_key world c file) (lease_of_client world c file).broken_to)
           b.is (head (subst (BreaksTell (file_key world c file) file (lease_of_client world c file).broken_to
-          (is_live ((world.clients c).entries file).phase)) first ((w.known.0.beliefs c w.good w.up).files file w.fresh).explained.within.breaks)))
+          (is_live ((world.clients c).entries file).phase)) first
+          ((w.known.0.beliefs c w.good w.up).files file w.fresh).explained.within.breaks)))
           (and_both (b.notice).ack_required (bytes_eq (file_key world c file) (b.notice).key) b.asks
           ((bytes_eq-Decides (file_key world c file) (b.notice).key).1 (sym b.key_is)));
       live = l.0;

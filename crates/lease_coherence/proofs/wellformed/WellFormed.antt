@@ -413,7 +413,8 @@ first_well rules setup allowed =
 run_well : (rules : Rules) (setup : Setup) (events : List Event) → is_allowed_setup setup ≡ true
     → Both Ground IsWell (after (first_world_under rules setup) events)
 run_well rules setup events allowed = runs_have (Both Ground IsWell) (λ world both. both.0)
-    (carried_both Ground IsWell ground_carried well_moves) rules setup (first_ground rules setup, first_well rules setup allowed) events
+    (carried_both Ground IsWell ground_carried well_moves) rules setup
+    (first_ground rules setup, first_well rules setup allowed) events
 
 pub runs_are_well_formed : RunsAreWellFormed
 runs_are_well_formed rules setup events allowed = subst (EachFact WellFormed)

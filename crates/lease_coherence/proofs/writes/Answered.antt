@@ -110,7 +110,8 @@ source_left world off c request source s file number counts = ⊎_elim
           not_counted world c file number request counts h.file (λ e. ne (sym e))
               (λ file_id used patch is. s.held_on h.file (held_of c request h.lane)
               (subst (λ (l : List Held). Among (held_of c request h.lane) l) (sym h.held)
-              (among_behind (held_of c request h.lane) h.before (held_of c request h.lane ∷ h.behind) (inl refl))) refl file_id used patch is),
+              (among_behind (held_of c request h.lane) h.before (held_of c request h.lane ∷ h.behind) (inl refl))) refl
+              file_id used patch is),
           ap
               (λ (l : List Held). writes number (world.requests c) + held_writes number (held_by c l))
               (sym (put_other world.server.held h.file (h.before ++ h.behind) file ne)),

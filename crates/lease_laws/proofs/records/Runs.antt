@@ -63,4 +63,5 @@ first_begun rules setup = record {
 
 -- the record of any run
 pub runs_start_first : RunsStartFirst
-runs_start_first rules setup events = (after-kept IsBegun begun_kept (first_world_under rules setup) events (first_begun rules setup)).first
+runs_start_first rules setup events = (after-kept IsBegun begun_kept (first_world_under rules setup) events
+    (first_begun rules setup)).first

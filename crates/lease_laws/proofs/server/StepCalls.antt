@@ -126,11 +126,14 @@ lane_stays : (before after : Server) (client : ℕ) (request : FileRequest) (fil
     → file_asked before client request ≡ Ok file → lane_of after client request ≡ lane_of before client request
 lane_stays before after client (FileRequest.Create at access share contexts) file k e = refl
 lane_stays before after client (FileRequest.Read file_id) file k e = open_lane file_id
-    (connected_open before client file_id) (connected_open after client file_id) file (λ one found. k.finds client file_id one found tt) e
+    (connected_open before client file_id) (connected_open after client file_id) file
+    (λ one found. k.finds client file_id one found tt) e
 lane_stays before after client (FileRequest.Write file_id number patch) file k e = open_lane file_id
-    (connected_open before client file_id) (connected_open after client file_id) file (λ one found. k.finds client file_id one found tt) e
+    (connected_open before client file_id) (connected_open after client file_id) file
+    (λ one found. k.finds client file_id one found tt) e
 lane_stays before after client (FileRequest.Close file_id) file k e = open_lane file_id
-    (connected_open before client file_id) (connected_open after client file_id) file (λ one found. k.finds client file_id one found tt) e
+    (connected_open before client file_id) (connected_open after client file_id) file
+    (λ one found. k.finds client file_id one found tt) e
 
 -- no earlier request that it waits behind is held there
 still_first : (file : ℕ) (one : Held) (before after : Progress) → Keeps Anywhere before.server after.server

@@ -126,4 +126,5 @@ first_agrees rules setup = record {
 pub beliefs_of_runs : (rules : Rules) (setup : Setup) (events : List Event) (client file : ℕ)
     → believed client file (after (first_world_under rules setup) events).past
     ≡ belief ((after (first_world_under rules setup) events).clients client) file
-beliefs_of_runs rules setup events = (after-kept Agrees agrees_kept (first_world_under rules setup) events (first_agrees rules setup)).agrees
+beliefs_of_runs rules setup events = (after-kept Agrees agrees_kept (first_world_under rules setup) events
+    (first_agrees rules setup)).agrees

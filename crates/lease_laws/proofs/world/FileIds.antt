@@ -314,8 +314,10 @@ first_counted rules setup = record {
   };
 }
 
-pub run_counted : (rules : Rules) (setup : Setup) (events : List Event) → IsCountedWorld (after (first_world_under rules setup) events)
-run_counted rules setup events = after-kept IsCountedWorld counted_kept (first_world_under rules setup) events (first_counted rules setup)
+pub run_counted : (rules : Rules) (setup : Setup) (events : List Event)
+    → IsCountedWorld (after (first_world_under rules setup) events)
+run_counted rules setup events = after-kept IsCountedWorld counted_kept (first_world_under rules setup) events
+    (first_counted rules setup)
 
 pub file_ids_are_counted : FileIdsAreCounted
 file_ids_are_counted rules setup events = (run_counted rules setup events).counted.last

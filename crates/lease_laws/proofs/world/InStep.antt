@@ -210,7 +210,8 @@ pub few_files : (files : List (List ℕ)) → nat_le (length files) files_limit 
 unfolding files_limit last_file_number
 few_files files e = grind arith
 
-first_contents : (rules : Rules) (setup : Setup) → is_allowed_setup setup ≡ true → HasContents (first_world_under rules setup).past (first_world_under rules setup).server
+first_contents : (rules : Rules) (setup : Setup) → is_allowed_setup setup ≡ true
+    → HasContents (first_world_under rules setup).past (first_world_under rules setup).server
 unfolding first_world_under new_server_under is_allowed_setup content_of
 first_contents rules setup allowed file =
     let few = (and_parts _ _ (and_parts _ _ (and_parts _ _ allowed).0).0).0 in
@@ -221,13 +222,15 @@ first_idle : (rules : Rules) (setup : Setup) (c : ℕ) → KeepsStep (first_worl
 unfolding first_world_under
 first_idle rules setup c up = absurd (true≢false (sym up))
 
-first_telling : (rules : Rules) (setup : Setup) → is_allowed_setup setup ≡ true → Both IsReady IsTrue (first_world_under rules setup)
+first_telling : (rules : Rules) (setup : Setup) → is_allowed_setup setup ≡ true
+    → Both IsReady IsTrue (first_world_under rules setup)
 first_telling rules setup allowed = (
   (first_linked rules setup, first_counted rules setup),
   record { contents = first_contents rules setup allowed; in_step = first_idle rules setup },
 )
 
-run_telling : (rules : Rules) (setup : Setup) (events : List Event) → is_allowed_setup setup ≡ true → IsTrue (after (first_world_under rules setup) events)
+run_telling : (rules : Rules) (setup : Setup) (events : List Event) → is_allowed_setup setup ≡ true
+    → IsTrue (after (first_world_under rules setup) events)
 run_telling rules setup events allowed =
     (kept_by_run (Both IsReady IsTrue) telling_forms (first_world_under rules setup) events (first_telling rules setup allowed)).1
 
@@ -235,4 +238,5 @@ pub contents_are_told : ContentsAreTold
 contents_are_told rules setup events allowed file = (run_telling rules setup events allowed).contents file
 
 pub replies_are_of_their_places : RepliesAreOfTheirPlaces
-replies_are_of_their_places rules setup events allowed client up = ((run_telling rules setup events allowed).in_step client up).in_step
+replies_are_of_their_places rules setup events allowed client up =
+    ((run_telling rules setup events allowed).in_step client up).in_step

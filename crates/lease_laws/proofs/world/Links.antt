@@ -417,4 +417,5 @@ first_linked rules setup = record {
 
 pub links_of_runs : LinksOfRuns
 links_of_runs rules setup events client =
-    let l = kept_by_run IsLinked linked_forms (first_world_under rules setup) events (first_linked rules setup) in (l.tied client, l.online client)
+    let l = kept_by_run IsLinked linked_forms (first_world_under rules setup) events (first_linked rules setup)
+    in (l.tied client, l.online client)

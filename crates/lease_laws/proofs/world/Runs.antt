@@ -72,7 +72,8 @@ run_sound : (rules : Rules) (setup : Setup) (events : List Event) → IsSoundWor
 run_sound rules setup events = after-kept IsSoundWorld sound_kept (first_world_under rules setup) events (first_sound rules setup)
 
 pub servers_of_runs : (rules : Rules) (setup : Setup) (events : List Event)
-    → IsSound (after (first_world_under rules setup) events).server × WaitsWell (after (first_world_under rules setup) events).server
+    → IsSound (after (first_world_under rules setup) events).server
+    × WaitsWell (after (first_world_under rules setup) events).server
 servers_of_runs rules setup events = let r = run_sound rules setup events in (r.sound, r.waits)
 
 -- ---- contents fit

@@ -37,5 +37,6 @@ abbrev pub RepliesAreOfTheirPlaces : Type 0
 RepliesAreOfTheirPlaces = (rules : Rules) (setup : Setup) (events : List Event) → is_allowed_setup setup ≡ true → (client : ℕ)
     → is_up ((after (first_world_under rules setup) events).links client) ≡ true
     → AreInStep client
-    (drop (takings client (after (first_world_under rules setup) events).past) (sendings client (after (first_world_under rules setup) events).past))
+    (drop (takings client (after (first_world_under rules setup) events).past)
+    (sendings client (after (first_world_under rules setup) events).past))
     ((after (first_world_under rules setup) events).replies client)

@@ -23,7 +23,8 @@ was_opened place file client (_ ∷ past) = was_opened place file client past
 -- The FileId given last is the number of opens that the record tells of.
 abbrev pub FileIdsAreCounted : Type 0
 FileIdsAreCounted = (rules : Rules) (setup : Setup) (events : List Event)
-    → (after (first_world_under rules setup) events).server.last_id ≡ opened_count (after (first_world_under rules setup) events).past
+    → (after (first_world_under rules setup) events).server.last_id
+    ≡ opened_count (after (first_world_under rules setup) events).past
 
 -- Each open of the server is the one that the record tells of in the place of its FileId.
 abbrev pub OpensAreTold : Type 0

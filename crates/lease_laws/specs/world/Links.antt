@@ -30,4 +30,5 @@ IsOnline world client = (world.clients client).is_online ≡ not (is_down (world
 
 abbrev pub LinksOfRuns : Type 0
 LinksOfRuns = (rules : Rules) (setup : Setup) (events : List Event) (client : ℕ)
-    → IsTied (after (first_world_under rules setup) events) client × IsOnline (after (first_world_under rules setup) events) client
+    → IsTied (after (first_world_under rules setup) events) client
+    × IsOnline (after (first_world_under rules setup) events) client

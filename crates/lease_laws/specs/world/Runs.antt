@@ -13,7 +13,8 @@ use Rattle.lease_laws.specs.server.Waiting.{WaitsWell}
 -- the server meets the laws of servers and of waiting
 abbrev pub ServersOfRunsAreSound : Type 0
 ServersOfRunsAreSound = (rules : Rules) (setup : Setup) (events : List Event)
-    → IsSound (after (first_world_under rules setup) events).server × WaitsWell (after (first_world_under rules setup) events).server
+    → IsSound (after (first_world_under rules setup) events).server
+    × WaitsWell (after (first_world_under rules setup) events).server
 
 -- no content is longer than a file may be
 abbrev pub ContentsOfRunsFit : Type 0

@@ -76,7 +76,8 @@ comes_following manager tag client (FileRequest.Create file access share context
     before_follows manager tag client (FileRequest.Create file access share contexts)
     (file_asked manager.server client (FileRequest.Create file access share contexts)) tagged
 comes_following manager tag client (FileRequest.Read file_id) tagged =
-    before_follows manager tag client (FileRequest.Read file_id) (file_asked manager.server client (FileRequest.Read file_id)) tagged
+    before_follows manager tag client (FileRequest.Read file_id) (file_asked manager.server client (FileRequest.Read file_id))
+    tagged
 comes_following manager tag client (FileRequest.Write file_id number patch) tagged =
     before_follows manager tag client (FileRequest.Write file_id number patch)
     (file_asked manager.server client (FileRequest.Write file_id number patch)) tagged
@@ -100,7 +101,8 @@ acknowledges manager client given tagged =
 
 -- ---- connections and timers
 
-joined_facts : (server : Server) (client : ℕ) → ((join server client).outs ≡ []) × ((join server client).server.held ≡ server.held)
+joined_facts : (server : Server) (client : ℕ) → ((join server client).outs ≡ [])
+    × ((join server client).server.held ≡ server.held)
 unfolding join
 joined_facts server client = if_cases (λ (q : Progress). (q.outs ≡ []) × (q.server.held ≡ server.held)) (server.present client)
     (begun server) (joined client (begun server)) (λ up. (refl, refl)) (λ down. (refl, refl))

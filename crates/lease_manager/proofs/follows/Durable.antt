@@ -26,5 +26,6 @@ durable_answered table = λ coming one there durable.
     let call = call_of (manager_of table) coming in
     let goes = managers_are_servers (manager_of table) coming (λ file. refl) in
     ⊎_elim (λ was. inl was)
-    (λ sent. inr (answered_so one (called (server_of table) call).outs (handled_by (manager_of table) coming).told goes.told sent))
+    (λ sent. inr (answered_so one (called (server_of table) call).outs (handled_by (manager_of table) coming).told goes.told
+    sent))
     (durable-told (server_of table) call one (subst (λ (s : Server). Among one s.opens) goes.server there) durable)

@@ -78,7 +78,8 @@ writes_by server client file_id one is =
     (ap (λ b. may_write one.access && b) (ready_alike server (key_of_open one) one.file)
     ∙ sym (looked_at request server.leases (may_write one.access) (all_wants server (key_of_open one) one.file)
     Status.AccessDenied)
-    ∙ ap (λ (o : Option Open). is_answerable request server.leases (by_open o (λ x. write_finding server x (patch_like true)))) is)
+    ∙ ap (λ (o : Option Open). is_answerable request server.leases
+    (by_open o (λ x. write_finding server x (patch_like true)))) is)
     (ap file_of_open is)
 
 pub writes_none : (server : Server) (client file_id : ℕ) → None ≡ connected_open server client file_id

@@ -20,7 +20,8 @@ among_is : (clients : List ClientNo) (client : ClientNo)
 among_is [] client = refl
 among_is (one ∷ clients) client = ap₂ (λ a b. a || b) (at_client client one) (among_is clients client)
 
-pub present_is : (clients : BTreeSet ClientNo) (client : ClientNo) → contains client_order clients client ≡ is_among clients.keys client.0
+pub present_is : (clients : BTreeSet ClientNo) (client : ClientNo) → contains client_order clients client
+    ≡ is_among clients.keys client.0
 present_is clients client = among_is clients.keys client
 
 -- the clients before and after one comes or goes

@@ -40,7 +40,8 @@ inserted_at test n (x ∷ opens) one order (inl same) its =
     filter_among (λ o. test o || has_id n o) test opens (λ o a. off (test o) (has_id n o)
     (above x.file_id o.file_id n at (order.0 o a))) in
     either (test x)
-    (λ t. rw (t, rest) (subst (λ m. insert_key nat_cmp (m ∷ ids_of (filter test opens)) n ≡ m ∷ ids_of (filter test opens)) (sym at)
+    (λ t. rw (t, rest) (subst (λ m. insert_key nat_cmp (m ∷ ids_of (filter test opens)) n ≡ m ∷ ids_of (filter test opens))
+    (sym at)
     (rw (equal_is n) refl)))
     (λ t. rw (t, here, rest) (inserted_first n (filter test opens) (λ o a. low x.file_id o.file_id n at
     (order.0 o (among_filter test o opens a).0)) ∙ ap (λ m. m ∷ ids_of (filter test opens)) (sym at)))
@@ -154,7 +155,8 @@ filter_both f g (x ∷ opens) = let later = filter_both f g opens in either (f x
 split_so : (test : Open → Bool) (server : Server) (named kept : List FileId) (last : Bool) → AreInOrder server.opens
     → numbers named ≡ ids_of (filter (λ (one : Open). test one && one.connected) server.opens)
     → kept ≡ filter (λ (fid : FileId). is_lasting last (is_so (outlives_by server.leases) server.opens fid.0)) named
-    → numbers kept ≡ ids_of (filter (λ (one : Open). test one && one.connected && is_lasting last (outlives_connection server one)) server.opens)
+    → numbers kept ≡ ids_of (filter (λ (one : Open). test one && one.connected
+    && is_lasting last (outlives_connection server one)) server.opens)
 split_so test server named kept last order are is =
     let up : Open → Bool = λ one. test one && one.connected in
     ap numbers is ∙ (picked_by (λ found. is_lasting last (found_by (outlives_by server.leases) found)) server.opens order named
@@ -205,7 +207,8 @@ part_now table test named parted_ids summaries after middle now same order are e
     record {
       server = ap (λ (s : Server). record s { opens = now })
           (table_closed table (is_lost_of server test) _ summaries after middle same order lost_ids closed)
-          ∙ ap (λ (opens : List Open). record (with_opens server (without (is_lost_of server test) table.opens)) { opens = opens }) shown;
+          ∙ ap (λ (opens : List Open). record (with_opens server (without (is_lost_of server test) table.opens))
+          { opens = opens }) shown;
       ended = lost_ids;
       left = kept_ids;
     }

@@ -26,7 +26,8 @@ all_given_up server own file = ap not (any_either (is_other_on own file) (λ one
 
 pub hindered_still : (server : Server) (own : Option Key) (file : ℕ) → list_any (is_hinderer server own file) server.opens ≡ true
     → false ≡ is_given_up server own file Extent.All
-hindered_still server own file some = sym (all_given_up server own file ∙ (ap (λ b. not (list_any (is_writer server own file) server.opens || b)) some
+hindered_still server own file some = sym (all_given_up server own file
+    ∙ (ap (λ b. not (list_any (is_writer server own file) server.opens || b)) some
     ∙ either_way (list_any (is_writer server own file) server.opens)))
   where
     either_way : (a : Bool) → not (a || true) ≡ false
@@ -35,7 +36,8 @@ hindered_still server own file some = sym (all_given_up server own file ∙ (ap 
 pub unhindered_now : (server : Server) (own : Option Key) (file : ℕ) (result : Bool)
     → list_any (is_hinderer server own file) server.opens ≡ false
     → result ≡ not (list_any (is_writer server own file) server.opens) → result ≡ is_given_up server own file Extent.All
-unhindered_now server own file result none is = is ∙ sym (all_given_up server own file ∙ (ap (λ b. not (list_any (is_writer server own file) server.opens || b)) none
+unhindered_now server own file result none is = is ∙ sym
+    (all_given_up server own file ∙ (ap (λ b. not (list_any (is_writer server own file) server.opens || b)) none
     ∙ alone (list_any (is_writer server own file) server.opens)))
   where
     alone : (a : Bool) → not (a || false) ≡ not a

@@ -199,7 +199,8 @@ abbrev want_at : Key → Want
 want_at key = record { key = key; lowered = nothing_cached }
 
 -- each lease that a write wants breaks to nothing where none hinders the write
-pub unhindered_ready : (server : Server) (own : Option Key) (file : ℕ) → list_any (is_hinderer server own file) server.opens ≡ false
+pub unhindered_ready : (server : Server) (own : Option Key) (file : ℕ) → list_any (is_hinderer server own file) server.opens
+    ≡ false
     → list_all (λ want. breaks_to_none (server.leases want.key)) (all_wants server own file) ≡ true
 unhindered_ready server own file none =
     each_all (λ want. breaks_to_none (server.leases want.key)) (all_wants server own file) (λ want a.
@@ -214,7 +215,8 @@ unhindered_ready server own file none =
     (rw parts.0 at settled)))
 
 -- and where one hinders it, that one doesn't
-pub hindered_unready : (server : Server) (own : Option Key) (file : ℕ) → list_any (is_hinderer server own file) server.opens ≡ true
+pub hindered_unready : (server : Server) (own : Option Key) (file : ℕ) → list_any (is_hinderer server own file) server.opens
+    ≡ true
     → list_all (λ want. breaks_to_none (server.leases want.key)) (all_wants server own file) ≡ false
 hindered_unready server own file some =
     let one = any_has (is_hinderer server own file) server.opens some in

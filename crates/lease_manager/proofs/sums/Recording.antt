@@ -247,7 +247,8 @@ pub last_is : (key : Key) (one : Open) (known : LeaseRecord) (before : Key → O
 last_is key one known before less more b own m was is fits =
     last_lost key one known less more m (own_has one key own) (subst (RecordFits key more) was (fits key)) ∙ ap not is
 
-pub records_put : (key : Key) (known : LeaseRecord) (lease : HeldLease) (before after : Key → Option LeaseRecord) (opens : List Open)
+pub records_put : (key : Key) (known : LeaseRecord) (lease : HeldLease) (before after : Key → Option LeaseRecord)
+    (opens : List Open)
     → before key ≡ Some known → IsKeyChanged key before after (Some (record known { lease = lease }))
     → ((other : Key) → RecordFits other opens (before other)) → (other : Key) → RecordFits other opens (after other)
 records_put key known lease before after opens was changed fits =

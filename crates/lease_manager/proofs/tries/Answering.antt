@@ -25,11 +25,13 @@ writes_on table outs more last None client file file_id fits limit there one two
 writes_on table outs more last (Some found) client file file_id fits limit there one two =
     let is : found.file ≡ file = cc there in
     let within : fits ≡ true = sym (limit_like fits) ∙ limit in
-    let given : last ≡ outs ++ Out.Changed found.file client 0 (patch_like fits) ∷ Out.Sent client (Reply.WriteDone file_id 0) ∷ [] =
+    let given : last ≡ outs ++ Out.Changed found.file client 0 (patch_like fits) ∷ Out.Sent client (Reply.WriteDone file_id 0)
+    ∷ [] =
     two ∙ (ap (λ l. l ++ Out.Sent client (Reply.WriteDone file_id 0) ∷ []) one
     ∙ (append_assoc outs (Out.Changed file client 0 (patch_like true) ∷ []) (Out.Sent client (Reply.WriteDone file_id 0) ∷ [])
     ∙ (ap (λ n. outs ++ Out.Changed n client 0 (patch_like true) ∷ Out.Sent client (Reply.WriteDone file_id 0) ∷ []) (sym is)
-    ∙ ap (λ b. outs ++ Out.Changed found.file client 0 (patch_like b) ∷ Out.Sent client (Reply.WriteDone file_id 0) ∷ []) (sym within)))) in
+    ∙ ap (λ b. outs ++ Out.Changed found.file client 0 (patch_like b) ∷ Out.Sent client (Reply.WriteDone file_id 0) ∷ [])
+    (sym within)))) in
     ap (progress_of table) given
     ∙ ap (λ contents. record {
       server = with_contents table contents;

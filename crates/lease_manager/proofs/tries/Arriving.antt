@@ -92,7 +92,8 @@ pub tried_and_answered : (before during last : Table) (told now : List Decision)
     → now ≡ (told ++ ended_between (server_of before) (server_of during)) ++ told_of one.tag more
     → handling_of last now ≡ arrived_before one (handling_of before told) (Ok file)
 tried_and_answered before during last told now outs more file one outcome first end ready same done stays said =
-    ap (λ (q : List Queue). record { manager = record { server = server_of last; queues = queue_at q }; told = now }) (stays ∙ same)
+    ap (λ (q : List Queue). record { manager = record { server = server_of last; queues = queue_at q }; told = now })
+    (stays ∙ same)
     ∙ (ap (λ l. record { manager = record { server = server_of last; queues = queue_at before.queues }; told = l }) said
     ∙ (ap (gone_with before told one (server_of during)) done
     ∙ (sym (answer_told file one (handling_of before told) (progress_of during outs) outcome ready)

@@ -81,7 +81,8 @@ ids_parted test (one ∷ opens) = let later = ids_parted test opens in either (t
     (λ t. rw t (ap (λ l. one.file_id ∷ l) later))
     (λ t. rw t (ap (λ l. one.file_id ∷ l) later))
 
-left_ids : (opens : List Open) → map Decision.LeftBehind (ids_of opens) ≡ map (λ (one : Open). Decision.LeftBehind one.file_id) opens
+left_ids : (opens : List Open) → map Decision.LeftBehind (ids_of opens)
+    ≡ map (λ (one : Open). Decision.LeftBehind one.file_id) opens
 left_ids [] = refl
 left_ids (one ∷ opens) = ap (λ l. Decision.LeftBehind one.file_id ∷ l) (left_ids opens)
 
@@ -120,7 +121,8 @@ lost_now before middle after told during now ids client order p queues gone firs
     ∙ (ap (λ s. at_handling s (λ file. without (is_of client) (queue_at middle.queues file)) now) links
     ∙ (ap (λ (q : List Queue). at_handling (links_lost (server_of before) client).server
     (λ file. without (is_of client) (queue_at q file)) now) queues
-    ∙ ap (at_handling (links_lost (server_of before) client).server (λ file. without (is_of client) (queue_at before.queues file)))
+    ∙ ap (at_handling (links_lost (server_of before) client).server
+    (λ file. without (is_of client) (queue_at before.queues file)))
     (parted_told before (server_of middle) test ids told during now order p first second
     ∙ ap (λ more. (told ++ more) ++ left_behind test (server_of before)) (same_ended (server_of before) (server_of middle)
     (links_lost (server_of before) client).server (ap (λ (s : Server). s.opens) p.server)))))
@@ -133,7 +135,8 @@ at_queues server queues told = record {
   told = told;
 }
 
-pub left_now : (before middle after : Table) (told during now : List Decision) (ids : Parted) (client : ℕ) (file_ids tags : List ℕ)
+pub left_now : (before middle after : Table) (told during now : List Decision) (ids : Parted) (client : ℕ)
+    (file_ids tags : List ℕ)
     → AreInOrder before.opens → IsParted (is_named client file_ids) (server_of before) ids (server_of middle)
     → middle.queues ≡ before.queues → manager_of after ≡ requests_gone (is_left client tags) (manager_of middle)
     → during ≡ told ++ map Decision.Ended (numbers ids.ended.items)

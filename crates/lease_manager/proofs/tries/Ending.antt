@@ -99,7 +99,8 @@ twice false = refl
 
 filter_same : (f g : Open → Bool) (opens : List Open) → ((one : Open) → f one ≡ g one) → filter f opens ≡ filter g opens
 filter_same f g [] same = refl
-filter_same f g (one ∷ opens) same = let later = filter_same f g opens same in rw (same one) (ap (λ l. if g one then one ∷ l else l) later)
+filter_same f g (one ∷ opens) same = let later = filter_same f g opens same
+    in rw (same one) (ap (λ l. if g one then one ∷ l else l) later)
 
 ids_told : (opens : List Open) → map Decision.Ended (ids_of opens) ≡ map (λ (one : Open). Decision.Ended one.file_id) opens
 ids_told [] = refl
@@ -143,4 +144,5 @@ ended_so opens now first ids none order more =
 pub none_ends : (before after : Server) → after.opens ≡ before.opens → ended_between before after ≡ []
 unfolding ended_between
 none_ends before after same = ap (λ (opens : List Open). map (λ (one : Open). Decision.Ended one.file_id)
-    (without (λ (one : Open). list_any (λ (other : Open). other.file_id == one.file_id) opens) before.opens)) same ∙ none_between before
+    (without (λ (one : Open). list_any (λ (other : Open). other.file_id == one.file_id) opens) before.opens)) same
+    ∙ none_between before

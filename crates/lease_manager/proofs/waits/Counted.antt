@@ -81,7 +81,8 @@ known_counted server queues i place before after put is inside stays known = gri
 
 server_decides : (table : Table) (summaries : Summaries) → table.leases ≡ listed summaries
     → deciding table.rules table.files table.opens (lease_in summaries) ≡ decider (server_of table)
-server_decides table summaries same = ap (deciding table.rules table.files table.opens) (sym (leases_are summaries) ∙ ap lease_at (sym same))
+server_decides table summaries same = ap (deciding table.rules table.files table.opens)
+    (sym (leases_are summaries) ∙ ap lease_at (sym same))
 
 no_spare : (table : Table) (summaries : Summaries) → AreKept table.opens summaries table.last_id
     → table.leases ≡ listed summaries → HasNoSpare (server_of table)

@@ -210,7 +210,8 @@ pub answered_here : (file place : ℕ) (before during freed last : Table) (told 
     → last.queues ≡ freed.queues
     → now ≡ (told ++ ended_between (server_of before) (server_of during)) ++ told_of one.tag more
     → IsAnswered file place (handling_of before told) (handling_of last now)
-answered_here file place before during freed last told now outs more one outcome inside is first end ready same left done stays said =
+answered_here file place before during freed last told now outs more one outcome inside is first end ready same left done
+    stays said =
     let queue : remove (queue_at during.queues file) place ≡ without_place (queue_at before.queues file) place =
     removed_is (queue_at during.queues file) place
     ∙ ap (λ (q : List Queue). without_place (queue_at q file) place) same in
@@ -223,10 +224,13 @@ answered_here file place before during freed last told now outs more one outcome
     ap queue_at stays ∙ (ap (λ (m : Manager). m.queues) left
     ∙ (ap (λ (q : List Queue). put (queue_at q) file (remove (queue_at during.queues file) place)) same
     ∙ ap (put (queue_at before.queues) file) queue)) in
-    answers_here file place (handling_of before told) (handling_of last now) (progress_of during outs) one outcome inside is first end
+    answers_here file place (handling_of before told) (handling_of last now) (progress_of during outs) one outcome inside is
+    first end
     ready (ap (λ q. at_handling (server_of last) q now) queues
-    ∙ (ap (at_handling (server_of last) (put (queue_at before.queues) file (without_place (queue_at before.queues file) place))) said
-    ∙ ap (λ (p : Progress). at_handling p.server (put (queue_at before.queues) file (without_place (queue_at before.queues file) place))
+    ∙ (ap (at_handling (server_of last) (put (queue_at before.queues) file
+    (without_place (queue_at before.queues file) place))) said
+    ∙ ap (λ (p : Progress). at_handling p.server (put (queue_at before.queues) file
+    (without_place (queue_at before.queues file) place))
     ((told ++ ended_between (server_of before) (server_of during)) ++ told_of one.tag p.outs)) given))
 
 -- ---- the end of a pass

@@ -306,7 +306,8 @@ forgotten_at : (before after : Queues) (test : Tagged → Bool) (file : ℕ)
 unfolding put
 forgotten_at before after test file changed = fun_ext changed
 
-pub next_forgotten : (files : List FileNo) (i : ℕ) (file : FileNo) (test : Tagged → Bool) (before after : Queues) (whole : ℕ → List Tagged)
+pub next_forgotten : (files : List FileNo) (i : ℕ) (file : FileNo) (test : Tagged → Bool) (before after : Queues)
+    (whole : ℕ → List Tagged)
     → i < length files → file ≡ get_or files i file
     → ((other : ℕ) → queue_in after other
     ≡ (if other == file.0 then without test (queue_in before file.0) else queue_in before other))
@@ -320,7 +321,8 @@ next_forgotten files i file test before after whole inside is changed so_on =
     ap (all_without test (map (λ f. f.0) (drop (i + 1) files))) (forgotten_at before after test file.0 changed)
     ∙ (ap (λ (fs : List FileNo). all_without test (map (λ f. f.0) fs) (queue_in before)) (sym rest) ∙ so_on)
 
-pub none_forgotten : (files : List FileNo) (i : ℕ) (test : Tagged → Bool) (queues : ℕ → List Tagged) (whole : ℕ → List Tagged) → length files ≤ i
+pub none_forgotten : (files : List FileNo) (i : ℕ) (test : Tagged → Bool) (queues : ℕ → List Tagged) (whole : ℕ → List Tagged)
+    → length files ≤ i
     → all_without test (map (λ f. f.0) (drop i files)) queues ≡ whole → whole ≡ queues
 unfolding all_without
 none_forgotten files i test queues whole over so_on =

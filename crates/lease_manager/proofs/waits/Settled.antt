@@ -67,7 +67,8 @@ none_on : (file : ℕ) (test : Open → Bool) (opens : List Open)
 none_on file test opens none = has_none test (on_file file opens)
     (λ one a. let there = among_filter (is_on file) one opens a in none one there.0 there.1)
 
-pub settled_put : (queues : ℕ → List Held) (waiting now : Waiting) (rules : Rules) (count : ℕ) (opens : List Open) (key : Key) (lease : Lease)
+pub settled_put : (queues : ℕ → List Held) (waiting now : Waiting) (rules : Rules) (count : ℕ) (opens : List Open) (key : Key)
+    (lease : Lease)
     (leases later : Key → Lease) → ((other : Key) → later other ≡ (if key_eq other key then lease else leases other))
     → HaveForgotten (has_key key) opens waiting now
     → IsSettled queues waiting now (deciding rules count opens leases) (deciding rules count opens later)
@@ -77,7 +78,8 @@ settled_put queues waiting now rules count opens key lease leases later put forg
       same.0,
       ap (deciding rules count (on_file file opens)) (fun_ext (leases_put (on_file file opens) key lease leases later put
           (none_on file (has_key key) opens same.1))),
-      λ one a about. about_same (deciding rules count opens leases) (deciding rules count opens later) file one.client one.request refl about,
+      λ one a about. about_same (deciding rules count opens leases) (deciding rules count opens later) file one.client
+          one.request refl about,
     )) (forgotten file)
 
 -- opens that are closed, none of them on the file
@@ -87,7 +89,8 @@ on_left : (file : ℕ) (test : Open → Bool) (opens : List Open)
 on_left file test [] none = refl
 on_left file test (one ∷ opens) none = let later = on_left file test opens (λ other a. none other (inr a)) in grind arith
 
-about_left : (file : ℕ) (test : Open → Bool) (rules : Rules) (count : ℕ) (opens : List Open) (leases later : Key → Lease) (client : ℕ)
+about_left : (file : ℕ) (test : Open → Bool) (rules : Rules) (count : ℕ) (opens : List Open) (leases later : Key → Lease)
+    (client : ℕ)
     (request : FileRequest) → ((one : Open) → Among one opens → is_on file one ≡ true → test one ≡ false)
     → IsOnlyAbout (deciding rules count opens leases) file client request
     → IsOnlyAbout (deciding rules count (without test opens) later) file client request
@@ -116,7 +119,8 @@ about_left file test rules count opens leases later client (FileRequest.Write fi
         (λ x. not (test x)) opens one is (ap not stays)) ∙ there
 about_left file test rules count opens leases later client (FileRequest.Close file_id) none about = absurd about
 
-pub settled_closed : (queues : ℕ → List Held) (waiting now : Waiting) (rules : Rules) (count : ℕ) (opens left : List Open) (ids : List ℕ)
+pub settled_closed : (queues : ℕ → List Held) (waiting now : Waiting) (rules : Rules) (count : ℕ) (opens left : List Open)
+    (ids : List ℕ)
     (summaries after : Summaries) → HaveClosed opens ids summaries left after → HaveForgotten (is_one_of ids) opens waiting now
     → IsSettled queues waiting now (deciding rules count opens (lease_in summaries)) (deciding rules count left (lease_in after))
 settled_closed queues waiting now rules count opens left ids summaries after closed forgotten = λ file. ⊎_elim
@@ -134,7 +138,8 @@ settled_closed queues waiting now rules count opens left ids summaries after clo
           (λ some. rw some refl))),
       λ one a about. subst (λ os. IsOnlyAbout (deciding rules count os (lease_in after)) file one.client one.request)
           (sym closed.opens_left)
-          (about_left file (is_one_of ids) rules count opens (lease_in summaries) (lease_in after) one.client one.request same.1 about),
+          (about_left file (is_one_of ids) rules count opens (lease_in summaries) (lease_in after) one.client one.request
+          same.1 about),
     )) (forgotten file)
 
 -- an open that comes on another file
@@ -181,7 +186,8 @@ about_more : (file : ℕ) (rules : Rules) (count : ℕ) (opens : List Open) (one
     → IsOnlyAbout (deciding rules count (opens ++ one ∷ []) later) file held.client held.request
 about_more file rules count opens one leases later held apart about = go held.client held.request apart about
   where
-    away : (own : Option Key) → has_own_key own one ≡ false → is_leased_elsewhere (deciding rules count opens leases) own file ≡ false
+    away : (own : Option Key) → has_own_key own one ≡ false → is_leased_elsewhere (deciding rules count opens leases) own file
+        ≡ false
         → is_leased_elsewhere (deciding rules count (opens ++ one ∷ []) later) own file ≡ false
     away None none e = refl
     away (Some key) none e = any_more (λ x. has_key key x && not (x.file == file)) opens one e (rw none refl)
@@ -204,7 +210,8 @@ about_more file rules count opens one leases later held apart about = go held.cl
             (found_before (λ x. x.file_id == file_id && x.client == client && x.connected) opens one found is) ∙ there
     go client (FileRequest.Close file_id) none told = absurd told
 
-pub settled_opened : (queues : ℕ → List Held) (waiting now : Waiting) (rules : Rules) (count : ℕ) (opens more : List Open) (one : Open)
+pub settled_opened : (queues : ℕ → List Held) (waiting now : Waiting) (rules : Rules) (count : ℕ) (opens more : List Open)
+    (one : Open)
     (lease : Lease) (leases later : Key → Lease) → more ≡ opens ++ one ∷ []
     → ((key : Key) → later key ≡ (if has_key key one then lease else leases key))
     → IsAtHome (key_of_open one) one.file opens → HaveForgottenFor one queues waiting now

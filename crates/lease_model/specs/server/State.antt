@@ -53,7 +53,8 @@ pub record Held : Type 0 where
   pub request : FileRequest
   pub lane : Lane
 
--- `rules` are those that the server was given, and stay. Files are those from 1 to `files`. `held` has for each file the requests that wait there, in order of
+-- `rules` are those that the server was given, and stay. Files are those from 1 to `files`. `held` has for each file the requests
+-- that wait there, in order of
 -- arrival; `present` are the clients whose connection the server has; `expired` are the keys whose break
 -- timer ran out since their client joined; `last_id` is the FileId given last.
 pub record Server : Type 0 where

@@ -88,7 +88,8 @@ known_link : (old : CodeWorld) (number : ℕ) (link : code.Link) → IsPresent n
     → is_link (seat_in old.seats number).link link ≡ true → world.links number ≡ link_of link
 known_link old number link there world s e = grind arith
 
-not_cut : (old : CodeWorld) (world : World) (number : ℕ) (l : code.Link) → is_link l code.TheVariants.Up ≡ false → Stands old world
+not_cut : (old : CodeWorld) (world : World) (number : ℕ) (l : code.Link) → is_link l code.TheVariants.Up ≡ false
+    → Stands old world
     → Stands old (cut_over world number (link_of l)) × Keeps (sent_by_cut world number (link_of l)) old old
 not_cut old world number code.TheVariants.Down e s = (s, quiet_keeps old old refl)
 not_cut old world number code.TheVariants.Up e s = let c : ⊥ = cc in absurd c
@@ -300,7 +301,8 @@ told_happens result old new number client tells same named has applies = on_ok_w
     (λ does. event_happens old new number (tells client) named has (subst (λ (n : ℕ). Applies (tells n) old new) same does))
     applies
 
-pub command_applies : (old new : CodeWorld) (number : ℕ) (command : Command) → StepsIn number (ClientCall.Commanded command) old new
+pub command_applies : (old new : CodeWorld) (number : ℕ) (command : Command)
+    → StepsIn number (ClientCall.Commanded command) old new
     → Applies (Event.App number command) old new
 unfolding messages_of
 command_applies old new number command steps world s = (steps.1 tt world s, quiet_keeps old new steps.0)

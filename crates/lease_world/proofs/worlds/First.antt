@@ -227,7 +227,8 @@ next_event events n d lt =
     ∙ map-append event_of (take n events) (get_or events n d ∷ [])
     ∙ ap (λ es. es ++ event_of (get_or events n d) ∷ []) (sym (take_map event_of events n))
 
-pub one_more_event : (old new : CodeWorld) (first : World) (kept : Option (List code_reply.Reply)) (events : List code_event.Event)
+pub one_more_event : (old new : CodeWorld) (first : World) (kept : Option (List code_reply.Reply))
+    (events : List code_event.Event)
     → (n : ℕ) (d : code_event.Event) → n < length events → Stands old (after first (take n (map event_of events)))
     × KeepsBehind kept (messages_from first (take n (map event_of events))) old → Happens (event_of (get_or events n d)) old new
     → Stands new (after first (take (n + 1) (map event_of events)))

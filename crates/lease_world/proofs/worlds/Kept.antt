@@ -39,11 +39,13 @@ keeps_both old middle new xs ys a b =
     b ∙ (ap (λ (o : Option (List Reply)). option_map (λ replies. replies ++ ys) o) a ∙ behind_both (messages_kept old) xs ys)
 
 -- nothing is kept before it
-pub quiet_first : (old middle new : CodeWorld) (more : List Reply) → IsQuiet old middle → Keeps more middle new → Keeps more old new
+pub quiet_first : (old middle new : CodeWorld) (more : List Reply) → IsQuiet old middle → Keeps more middle new
+    → Keeps more old new
 quiet_first old middle new more quiet keeps = keeps_both old middle new [] more (quiet_keeps old middle quiet) keeps
 
 -- nothing is kept after it
-pub quiet_last : (old middle new : CodeWorld) (more : List Reply) → Keeps more old middle → IsQuiet middle new → Keeps more old new
+pub quiet_last : (old middle new : CodeWorld) (more : List Reply) → Keeps more old middle → IsQuiet middle new
+    → Keeps more old new
 quiet_last old middle new more keeps quiet = grind arith
 
 as_rules : (o : Option (List code.Reply)) (more : List code.Reply)

@@ -169,14 +169,16 @@ starts_are_silent file [] = refl
 starts_are_silent file (bytes ∷ files) = starts_are_silent (file + 1) files
 
 -- as many messages as facts that speak of one
-pub each_has_one : (rules : Rules) (setup : Setup) (events : List Event) → speaking (recorded_under rules setup events) ≡ length (messages_told_under rules setup events)
+pub each_has_one : (rules : Rules) (setup : Setup) (events : List Event) → speaking (recorded_under rules setup events)
+    ≡ length (messages_told_under rules setup events)
 unfolding first_world_under
 each_has_one rules setup events = after_says (first_world_under rules setup) events
     ∙ (ap (λ (facts : List Fact). speaking facts + length (messages_told_under rules setup events))
     (reverse-reverse (starts_from 1 setup.files))
     ∙ (ap (λ (n : ℕ). n + length (messages_told_under rules setup events)) (starts_are_silent 1 setup.files) ∙ omega arith))
 
-pub each_told : (facts : List code_fact.Fact) (replies : List code_reply.Reply) (rules : Rules) (setup : Setup) (events : List Event)
+pub each_told : (facts : List code_fact.Fact) (replies : List code_reply.Reply) (rules : Rules) (setup : Setup)
+    (events : List Event)
     → map fact_told facts ≡ recorded_under rules setup events → map reply_of replies ≡ messages_told_under rules setup events
     → speaking (map fact_told facts) ≡ length replies
 each_told facts replies rules setup events same messages =

@@ -32,7 +32,8 @@ told_with at told more last =
     let two = counts_both (is_answer at) told more in omega (arith, one, two)
 
 try_tells_none : (at : ℕ) (one : Tagged) (now : Handling)
-    → answers at (gone_on one.tag (try_of one now).progress (ends (try_of one now).progress.server now)).told ≡ answers at now.told
+    → answers at (gone_on one.tag (try_of one now).progress (ends (try_of one now).progress.server now)).told
+    ≡ answers at now.told
 try_tells_none at one now =
     let done = (try_of one now).progress in
     let all = told_with at now.told (ended_between now.manager.server done.server) (told_of one.tag done.outs) in

@@ -39,7 +39,8 @@ counts_fewer test left (x ∷ xs) = go (left x) (counts_fewer test left xs)
   where
     go : (b : Bool) → count_by test (filter left xs) ≤ count_by test xs
         → count_by test (if b then x ∷ filter left xs else filter left xs) ≤ count_by test (x ∷ xs)
-    go true less = let one = counts_next test x (filter left xs) in let all = counts_next test x xs in omega (arith, less, one, all)
+    go true less = let one = counts_next test x (filter left xs) in let all = counts_next test x xs
+        in omega (arith, less, one, all)
     go false less = let all = counts_next test x xs in omega (arith, less, all)
 
 -- ---- what is told

@@ -241,7 +241,8 @@ IsAskedBy requests coming = ⊤
 
 any_exactly : (requests : ℕ → FileRequest) (n : ℕ) (manager : Manager) (coming : Coming) → IsSound manager.server
     → AllAsked requests manager.queues → IsAskedBy requests coming → Exact requests n manager.server (managed manager coming)
-unfolding rules.join rules.receive rules.acknowledge rules.cut rules.expire rules.scavenge rules.withdraw rules.give_up rules.leave
+unfolding rules.join rules.receive rules.acknowledge rules.cut rules.expire rules.scavenge rules.withdraw rules.give_up
+    rules.leave
     join IsAskedBy
 any_exactly requests n manager (Coming.Joins client) sound asked own =
     if_cases (λ (p : Progress). Exact requests n manager.server (rules.at_server p.server (handling manager)))

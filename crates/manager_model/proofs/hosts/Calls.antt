@@ -245,7 +245,8 @@ asks requests manager host server tag client request are asked =
     (λ up. comes_serving requests manager host server tag client request are asked)
     (λ down. begins_serving requests manager host server are)
 
-acknowledges : (requests : ℕ → FileRequest) (manager : Manager) (host : Host) (server : Server) (client : ℕ) (given : Option LeaseOf)
+acknowledges : (requests : ℕ → FileRequest) (manager : Manager) (host : Host) (server : Server) (client : ℕ)
+    (given : Option LeaseOf)
     → AreServer requests manager host server
     → Serves requests host (rules.acknowledge manager client given) (receive server client (Request.Acknowledge given))
 unfolding rules.acknowledge receive arrived
@@ -385,7 +386,8 @@ lost_serves : (requests : ℕ → FileRequest) (manager : Manager) (host : Host)
     → AreServer requests manager host server
     → Serves requests host (lost client (handling manager)) (rules.links_lost server client)
 lost_serves requests manager host server client are =
-    let none = parts_nothing requests manager (λ one. one.client == client) (rules.links_lost manager.server client).server host in
+    let none = parts_nothing requests manager (λ one. one.client == client) (rules.links_lost manager.server client).server
+    host in
     record {
       server = record {
         without_bytes = ap (λ (m : Server). (rules.links_lost m client).server) are.without_bytes
@@ -473,7 +475,8 @@ left_serves requests manager host server client file_ids tags are =
             ∙ ap (map bare_held) (sym (waiting file))));
         waiting = waiting;
         asked = asked;
-        hosts = subst (λ (d : Hosted). IsHostOf d.host (requests_left marks (opens_left server client file_ids)).server) (sym none)
+        hosts = subst (λ (d : Hosted). IsHostOf d.host (requests_left marks (opens_left server client file_ids)).server)
+            (sym none)
             (same_host host (opens_left server client file_ids).server
             (requests_left marks (opens_left server client file_ids)).server
             (host_of_parted host server (is_named client file_ids) are.hosts) refl refl refl);

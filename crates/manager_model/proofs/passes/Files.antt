@@ -108,7 +108,8 @@ over_rest zero bound last (file ∷ files) now at rest =
 over_rest (suc count) bound last [] now at rest =
     file_by_file (suc bound) (numbers_above (suc bound) count) now
     ∙ ap (rules.passes_over (numbers_above (suc bound) count))
-    (nothing_to_pass (suc bound) now (⊎_elim (λ never. absurd never) (λ e. e) (rest.others (suc bound) (omega arith) (omega (arith, at)))))
+    (nothing_to_pass (suc bound) now (⊎_elim (λ never. absurd never) (λ e. e)
+    (rest.others (suc bound) (omega arith) (omega (arith, at)))))
     ∙ over_rest count (suc bound) last [] now (omega (arith, at)) (record {
       rising = tt;
       within = rest.within;

@@ -7,12 +7,14 @@ use Rattle.lease_laws.proofs.server.Lists.{either}
 
 -- ---- a held request tried again
 
-pub is_passed_over : (file : ℕ) (one : Held) (waiting : List Held) (pass : Pass) → is_behind pass.progress.server.rules one pass.passed ≡ true
+pub is_passed_over : (file : ℕ) (one : Held) (waiting : List Held) (pass : Pass)
+    → is_behind pass.progress.server.rules one pass.passed ≡ true
     → tried_again file one waiting pass ≡ left_waiting one pass pass.progress
 unfolding tried_again
 is_passed_over file one waiting pass behind = rw (behind) refl
 
-pub is_tried : (file : ℕ) (one : Held) (waiting : List Held) (pass : Pass) → is_behind pass.progress.server.rules one pass.passed ≡ false
+pub is_tried : (file : ℕ) (one : Held) (waiting : List Held) (pass : Pass)
+    → is_behind pass.progress.server.rules one pass.passed ≡ false
     → tried_again file one waiting pass ≡ after_try file one waiting pass (tried one.client one.request pass.progress).progress
     (tried one.client one.request pass.progress).outcome
 unfolding tried_again
@@ -23,7 +25,8 @@ is_tried file one waiting pass first = rw (first) refl
 -- answers: it is answered, or refused
 pub record HasTriesAgain (file : ℕ) (one : Held) (waiting : List Held) (pass : Pass) (P : Pass → Type 0) : Type 0 where
   pub behind : is_behind pass.progress.server.rules one pass.passed ≡ true → P (left_waiting one pass pass.progress)
-  pub waits : is_behind pass.progress.server.rules one pass.passed ≡ false → (tried one.client one.request pass.progress).outcome ≡ Outcome.Waits
+  pub waits : is_behind pass.progress.server.rules one pass.passed ≡ false
+      → (tried one.client one.request pass.progress).outcome ≡ Outcome.Waits
       → P (left_waiting one pass (tried one.client one.request pass.progress).progress)
   pub answers : is_behind pass.progress.server.rules one pass.passed ≡ false
       → ((tried one.client one.request pass.progress).outcome ≡ Outcome.Waits → ⊥)

@@ -9,13 +9,15 @@ settle-requires-clause-way c = way_alone _ (Coming.Acknowledges c.args.client.0 
     (rw (c.client_no.ensures, c.in-Some.ensures) at c.in_ok-acknowledge-in-Some.ensures.after)
 
 pub settle-requires-in-None-clause-way : goal.settle-requires-in-None-clause-way
-settle-requires-in-None-clause-way c = way_alone _ (Coming.Acknowledges c.args.client.0 (acknowledged_in c.args.bytes.now)) _ _ _ tt
+settle-requires-in-None-clause-way c = way_alone _ (Coming.Acknowledges c.args.client.0 (acknowledged_in c.args.bytes.now)) _
+    _ _ tt
     c.requires.server c.deref-in-None.ensures.value
     (rw (c.client_no-in-None.ensures, c.in-None.ensures) at c.in_ok-acknowledge_malformed-in-None.ensures.after)
 
 pub returns-in_ok-settle-in-Some : goal.returns-in_ok-settle-in-Some
 returns-in_ok-settle-in-Some c = c.in_ok-settle-in-Some.ensures
-    (way_alone _ (Coming.Acknowledges c.args.client.0 (acknowledged_in c.args.bytes.now)) _ _ _ tt c.requires.server c.deref.ensures.value
+    (way_alone _ (Coming.Acknowledges c.args.client.0 (acknowledged_in c.args.bytes.now)) _ _ _ tt c.requires.server
+    c.deref.ensures.value
     (rw (c.client_no.ensures, c.in-Some.ensures) at c.in_ok-acknowledge-in-Some.ensures.after))
 
 pub returns-in_ok-settle-in-None : goal.returns-in_ok-settle-in-None

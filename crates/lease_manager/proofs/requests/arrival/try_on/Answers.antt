@@ -11,7 +11,8 @@ use Rattle.lease_manager.proofs.requests.arrival.try_on.Goals as goal
 
 pub returns-then-is_behind : goal.returns-then-is_behind
 returns-then-is_behind c =
-    tagged_so (server_of c.args.tables.now) c.args.tag.0 c.args.client.0 (request_like c.args.ask) (lane_like c.lane_of-lane.result)
+    tagged_so (server_of c.args.tables.now) c.args.tag.0 c.args.client.0 (request_like c.args.ask)
+    (lane_like c.lane_of-lane.result)
     (handling_of c.args.tables.now c.args.told.now) _ c.args.file.0 c.lane_of-lane.ensures
     (behind_told c.args.tables.now c.hold.new.self c.args.told.now c.waits.new.self c.args.file.0 _
     (rw (c.held.ensures, c.rules.ensures) at (sym c.is_behind.ensures ∙ c.if-is_behind.true)) c.in_ok-hold.ensures
@@ -19,7 +20,8 @@ returns-then-is_behind c =
 
 pub returns-then-waits : goal.returns-then-waits
 returns-then-waits c =
-    tagged_so (server_of c.args.tables.now) c.args.tag.0 c.args.client.0 (request_like c.args.ask) (lane_like c.lane_of-lane.result)
+    tagged_so (server_of c.args.tables.now) c.args.tag.0 c.args.client.0 (request_like c.args.ask)
+    (lane_like c.lane_of-lane.result)
     (handling_of c.args.tables.now c.args.told.now) _ c.args.file.0 c.lane_of-lane.ensures
     (tried_and_waits c.args.tables.now c.try_now.new.tables c.hold-then-waits.new.self c.args.told.now c.tell.new.self
     c.waits-then-waits.new.self c.try_now.new.outs c.args.file.0 _ (outcome_of c.in_ok-outcome.outcome)
@@ -31,11 +33,13 @@ returns-then-waits c =
 
 pub conclude-requires-clause-met : goal.conclude-requires-clause-met
 conclude-requires-clause-met c = λ ready. ready_at_home c.args.client.0 (request_like c.args.ask)
-    (begun (server_of c.args.tables.now)) (progress_of c.try_now.new.tables c.try_now.new.outs) _ c.in_ok-outcome.ensures.ended ready
+    (begun (server_of c.args.tables.now)) (progress_of c.try_now.new.tables c.try_now.new.outs) _
+    c.in_ok-outcome.ensures.ended ready
 
 pub returns : goal.returns
 returns c =
-    tagged_so (server_of c.args.tables.now) c.args.tag.0 c.args.client.0 (request_like c.args.ask) (lane_like c.lane_of-lane.result)
+    tagged_so (server_of c.args.tables.now) c.args.tag.0 c.args.client.0 (request_like c.args.ask)
+    (lane_like c.lane_of-lane.result)
     (handling_of c.args.tables.now c.args.told.now) _ c.args.file.0 c.lane_of-lane.ensures
     (tried_and_answered c.args.tables.now c.try_now.new.tables c.conclude.new.tables c.args.told.now c.tell-2.new.self
     c.try_now.new.outs c.conclude.new.outs c.args.file.0 _ (outcome_of c.in_ok-outcome.outcome)

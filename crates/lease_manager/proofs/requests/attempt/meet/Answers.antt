@@ -17,4 +17,5 @@ returns-clause-ends c = ends_then c.args.tables.now.opens c.close.new.self.opens
     (ends_closed c.args.tables.now.opens c.close.new.self.opens (ids_in c.args.ended.now) (ids_in c.add_all.new.self) _
     (is_left_open c.want.inside.key) c.in_ok-ids.ensures.ids
     (ap (λ (server : Server). server.opens) c.in_ok-ids.ensures.closed) (rw c.deref.ensures.value at c.in_ok-add_all.ensures))
-    (ends_same c.close.new.self.opens c.break_lease.new.tables.opens (ids_in c.add_all.new.self) c.in_ok-break_lease.ensures.opens)
+    (ends_same c.close.new.self.opens c.break_lease.new.tables.opens (ids_in c.add_all.new.self)
+    c.in_ok-break_lease.ensures.opens)

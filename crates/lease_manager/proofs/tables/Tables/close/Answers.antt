@@ -14,7 +14,8 @@ invariant_of-self c = (
   kept_left c.self.inside.opens _ c.self.inside.summaries c.close_all.new.summaries c.close_all.new.opens
       c.self.inside.last_id c.self.invariant.0 (c.close_all.ensures c.self.invariant.0.agree),
   known_settled (held_at (filed c.self.inside.queues)) c.self.inside.waiting c.forget_files.new.waiting _ _
-      (settled_closed (held_at (filed c.self.inside.queues)) c.self.inside.waiting c.forget_files.new.waiting c.self.inside.rules c.self.inside.files.0
+      (settled_closed (held_at (filed c.self.inside.queues)) c.self.inside.waiting c.forget_files.new.waiting
+      c.self.inside.rules c.self.inside.files.0
       c.self.inside.opens c.close_all.new.opens _ c.self.inside.summaries c.close_all.new.summaries
       (rw c.deref-2.ensures.value at (c.close_all.ensures c.self.invariant.0.agree))
       (rw c.deref.ensures.value at c.forget_files.ensures)) c.self.invariant.1,

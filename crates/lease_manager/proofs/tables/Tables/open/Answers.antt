@@ -24,7 +24,8 @@ invariant_of-self c = (
       c.self.inside.last_id c.self.invariant.0 (rw (← c.self.view_is) at c.requires.next) c.in-Ok.ensures.opens
       (c.in-Ok.ensures.agrees (rw (← c.self.view_is) at c.requires.home) c.self.invariant.0.agree)),
   known_settled (held_at (filed c.self.inside.queues)) c.self.inside.waiting c.forget_for.new.waiting _ _
-      (settled_opened (held_at (filed c.self.inside.queues)) c.self.inside.waiting c.forget_for.new.waiting c.self.inside.rules c.self.inside.files.0
+      (settled_opened (held_at (filed c.self.inside.queues)) c.self.inside.waiting c.forget_for.new.waiting
+      c.self.inside.rules c.self.inside.files.0
       c.self.inside.opens c.add.new.opens c.args.one (lease_of c.args.lease) _ _ c.in-Ok.ensures.opens
       c.in-Ok.ensures.leases (rw (← c.self.view_is) at c.requires.home)
       c.forget_for.ensures) c.self.invariant.1,

@@ -23,7 +23,8 @@ invariant_of-self c =
         numbered = c.self.invariant.0.numbered;
       },
       known_settled (held_at (filed c.self.inside.queues)) c.self.inside.waiting c.forget_home.new.waiting _ _
-          (settled_put (held_at (filed c.self.inside.queues)) c.self.inside.waiting c.forget_home.new.waiting c.self.inside.rules c.self.inside.files.0
+          (settled_put (held_at (filed c.self.inside.queues)) c.self.inside.waiting c.forget_home.new.waiting
+          c.self.inside.rules c.self.inside.files.0
           c.self.inside.opens c.args.key (lease_of c.args.lease) _ _
           (c.in-Ok.ensures.leases c.self.inside.opens there c.self.invariant.0.agree)
           (c.forget_home.ensures c.self.inside.opens c.self.invariant.0.agree)) c.self.invariant.1,

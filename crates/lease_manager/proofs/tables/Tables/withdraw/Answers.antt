@@ -7,7 +7,8 @@ use Rattle.lease_manager.proofs.tables.Tables.withdraw.Goals as goal
 
 pub returns : goal.returns
 returns c = rw (← c.self.view_is) (table_requeued (the_view c.self.inside) _ c.args.file.0 _
-    (edited (without (is_under c.args.client.0 c.args.tag.0)) c.self.inside.queues c.withdraw.new.self c.args.file.0 c.withdraw.ensures))
+    (edited (without (is_under c.args.client.0 c.args.tag.0)) c.self.inside.queues c.withdraw.new.self c.args.file.0
+    c.withdraw.ensures))
 
 pub invariant_of-self : goal.invariant_of-self
 invariant_of-self c =

@@ -9,7 +9,8 @@ pub loop-id-init : goal.loop-id-init
 loop-id-init c = disconnected_none c.args.opens.now
 
 pub loop-id-preserved : goal.loop-id-preserved
-loop-id-preserved c = rw (map_more (λ (id : FileId). id.0) c.args.ids.now c.loop-id.id-index (record { 0 = 0 }) c.loop-id-test.true)
+loop-id-preserved c = rw (map_more (λ (id : FileId). id.0) c.args.ids.now c.loop-id.id-index (record { 0 = 0 })
+    c.loop-id-test.true)
     (c.in_ok-disconnect.ensures ∙ (ap (map (disconnected_at _)) c.loop-id.invariant ∙ disconnected_more _ _ c.args.opens.now))
 
 pub returns : goal.returns

@@ -7,9 +7,11 @@ use Rattle.lease_manager.proofs.tables.changes.leave_queues.Goals as goal
 
 pub loop-file-preserved : goal.loop-file-preserved
 loop-file-preserved c = next_forgotten c.args.files.now c.loop-file.file-index
-    (get_or c.args.files.now c.loop-file.file-index (record { 0 = 0 })) (is_left c.args.client.0 (tag_numbers c.args.tags.now)) c.loop-file.queues c.leave.new.self _
+    (get_or c.args.files.now c.loop-file.file-index (record { 0 = 0 }))
+    (is_left c.args.client.0 (tag_numbers c.args.tags.now)) c.loop-file.queues c.leave.new.self _
     c.loop-file-test.true (search rules) c.leave.ensures c.loop-file.invariant
 
 pub returns : goal.returns
-returns c = none_forgotten c.args.files.now c.loop-file.file-index (is_left c.args.client.0 (tag_numbers c.args.tags.now)) (queue_in c.loop-file.queues) _
+returns c = none_forgotten c.args.files.now c.loop-file.file-index (is_left c.args.client.0 (tag_numbers c.args.tags.now))
+    (queue_in c.loop-file.queues) _
     c.loop-file-test.false c.loop-file.invariant

@@ -6,7 +6,8 @@ pub returns-in-Some : goal.returns-in-Some
 returns-in-Some c =
     let change = λ (o : Open). record o { connected = c.args.connected } in
     let put = c.get_mut.follows.holds c.set_connected.new.self in
-    let filed = filed_written c.args.fid.0 change c.args.by_id.now.entries _ c.in-Some.one.now c.set_connected.new.self (λ o. refl)
+    let filed = filed_written c.args.fid.0 change c.args.by_id.now.entries _ c.in-Some.one.now c.set_connected.new.self
+    (λ o. refl)
     c.requires.filed (sym c.in-Some.ensures.value) c.set_connected.ensures put.0 put.4 in record {
       still_filed = filed.0;
       still_in_order = filed.1;

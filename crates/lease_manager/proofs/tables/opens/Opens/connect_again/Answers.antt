@@ -12,7 +12,8 @@ invariant_of-self c =
       rw c.set_connected.ensures.opens
           (waiting_again c.self.inside.left c.remove.new.self n c.owner-owner.result (values_of entries) c.in-Some.one.now
           c.self.invariant.1
-          (sym (c.in-Some.ensures.value ∙ find_filed n entries c.self.invariant.0)) c.owner-owner.ensures.client c.owner-owner.ensures.file c.self.invariant.2 c.remove.ensures),
+          (sym (c.in-Some.ensures.value ∙ find_filed n entries c.self.invariant.0)) c.owner-owner.ensures.client
+          c.owner-owner.ensures.file c.self.invariant.2 c.remove.ensures),
     )
 
 pub returns-in-None : goal.returns-in-None

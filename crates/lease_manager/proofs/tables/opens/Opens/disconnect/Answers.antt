@@ -12,7 +12,8 @@ invariant_of-self-in-Some c =
       rw c.set_connected.ensures.opens
           (waiting_left c.self.inside.left c.insert.new.self c.args.fid c.owner-owner.result (values_of entries)
           c.in-Some.one.now c.self.invariant.1
-          (sym (c.in-Some.ensures.value ∙ find_filed n entries c.self.invariant.0)) c.owner-owner.ensures.client c.owner-owner.ensures.file
+          (sym (c.in-Some.ensures.value ∙ find_filed n entries c.self.invariant.0)) c.owner-owner.ensures.client
+          c.owner-owner.ensures.file
           c.self.invariant.2 c.in_ok-insert-in-Some.ensures.one_more),
     )
 

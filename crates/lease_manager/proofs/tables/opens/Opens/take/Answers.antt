@@ -14,7 +14,8 @@ invariant_of-self c =
       filed,
       in_order c.remove.new.self.entries filed c.remove.ensures.ordered,
       rw now (waiting_taken c.self.inside.left c.remove-in-Some.new.self n c.owner.result (values_of entries) c.in-Some.one
-          c.self.invariant.1 (sym (c.in-Some.ensures.value ∙ find_filed n entries c.self.invariant.0)) c.owner.ensures.client c.owner.ensures.file c.self.invariant.2 c.remove-in-Some.ensures),
+          c.self.invariant.1 (sym (c.in-Some.ensures.value ∙ find_filed n entries c.self.invariant.0)) c.owner.ensures.client
+          c.owner.ensures.file c.self.invariant.2 c.remove-in-Some.ensures),
     )
 
 pub returns-in-Some : goal.returns-in-Some

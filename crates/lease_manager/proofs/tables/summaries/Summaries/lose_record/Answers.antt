@@ -29,7 +29,8 @@ returns-else-not-is_empty c =
     let written = record known { tally = c.lowered-known.result } in
     let was = sym c.in-Some.ensures.value in
     let none = rw c.lowered-known.ensures at (sym c.is_empty.ensures ∙ c.if-not-is_empty.false) in
-    let changed = changed_twice c.args.key _ _ _ _ _ (key_changed c.args.self.now.leases (c.get_mut.follows.lender written) c.args.key _
+    let changed = changed_twice c.args.key _ _ _ _ _
+    (key_changed c.args.self.now.leases (c.get_mut.follows.lender written) c.args.key _
     ((c.get_mut.follows.holds written).3 (search rules)))
     (key_changed (c.get_mut.follows.lender written) c.remove.new.self c.args.key _ c.remove.ensures.updates) in record {
       files = refl;

@@ -43,7 +43,8 @@ returns-else-ne c =
       agrees = λ opens there agrees. agrees_from during during opens refl
           (records_put key known c.args.lease (record_at before) (record_at during) opens was changed agrees.records)
           (summaries_alike key (lease_of c.args.lease) opens (lease_in before) (lease_in during) (summary_at before) put
-          (sym c.of-marks.ensures ∙ (same ∙ (c.of-marked.ensures ∙ ap (λ r. marks_of (lease_or_none r)) (sym was)))) agrees.files);
+          (sym c.of-marks.ensures ∙ (same ∙ (c.of-marked.ensures ∙ ap (λ r. marks_of (lease_or_none r)) (sym was))))
+          agrees.files);
       leases = λ opens there agrees other. put other;
     }
 
