@@ -133,7 +133,7 @@ struct smblease_answer {
     uint32_t kind;
     /* one of smblease_refusal */
     uint32_t refusal;
-    /* an NTSTATUS */
+    /* the NTSTATUS of the server's reply, as it came */
     uint32_t status;
     /* the bytes came from the cache */
     uint8_t cached;
@@ -223,8 +223,8 @@ uint32_t smblease_client_write(struct smblease_client *client, uint8_t file, uin
 uint32_t smblease_client_flush(struct smblease_client *client, uint8_t file);
 
 /* Messages of the server (3.2.5). What fits no open, and contexts or notifications that can't be read, are
-   passed over. A status that the machines have no name for is that of a request that failed,
-   STATUS_UNSUCCESSFUL. They allocate; DONE, LOST or NONE; of created and read_done also NO_MEMORY, for the
+   passed over. A status that the machines have no name for is to them that of a request that failed,
+   STATUS_UNSUCCESSFUL; an answer that fails by it has it as it came. They allocate; DONE, LOST or NONE; of created and read_done also NO_MEMORY, for the
    copy of their bytes. closed, close_failed, ack_done and ack_failed never lose the machine. */
 uint32_t smblease_client_take_created(struct smblease_client *client, uint8_t file, uint64_t file_id,
                                       const uint8_t *contexts, size_t length);

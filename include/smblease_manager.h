@@ -71,8 +71,8 @@
  * first part below, the manager is lost: it is freed with all that it knew, the handle is {0}, and the call
  * returns SMBLEASE_LOST. The host's files are as they were, but nobody knows any longer who has what open, or
  * caches it: the host cuts every connection, lets go of all that is open, answers nothing of what waited, and
- * makes a new manager. smblease_manager_new and smblease_manager_list_opens return SMBLEASE_NO_MEMORY then,
- * and nothing changed. Each function below says whether it allocates.
+ * makes a new manager. smblease_manager_new and the functions that list return SMBLEASE_NO_MEMORY then, and
+ * nothing changed. Each function below says whether it allocates.
  *
  * What a caller has to keep to is what smblease_machines.h says of its handles: one call at a time uses a
  * handle, also one that only looks; handles share nothing, so threads may use different handles at once; a
@@ -92,10 +92,13 @@ extern "C" {
 
 struct smblease_manager { void *state; };
 
-/* Makes a manager where nothing is open and no client has joined, of an order of requests and a rise of
-   leases (smblease_machines.h; both 0 are the rules of docs/PROFILE.md). Files have the numbers from 1 to
-   `files`: UINT64_MAX where the host checks them itself. What the handle held is freed. Allocates. DONE,
-   NO_MEMORY, or NO_SUCH where a number stands for no rule; unless DONE the handle is as it was. */
+/* Makes a manager where nothing is open and no client has joined, of one of enum smblease_order and one of enum
+   smblease_rise (smblease_machines.h). Windows and Samba were seen to go by SMBLEASE_BY_KEY and SMBLEASE_WHOLE.
+   SMBLEASE_BY_CLIENT, the profile's, has a trap: a client that opens a file again without a key while it caches
+   writes waits for its own lease's break, its write-back behind that, and the timer takes the lease with what it
+   cached. Files have the numbers from 1 to `files`: UINT64_MAX where the host checks them itself. What the handle
+   held is freed. Allocates. DONE, NO_MEMORY, or NO_SUCH where a number stands for no rule; unless DONE the handle
+   is as it was. */
 uint32_t smblease_manager_new(struct smblease_manager *manager, uint32_t order, uint32_t rise, uint64_t files);
 /* Frees the manager; the handle is {0} then. Allocates nothing. */
 void smblease_manager_free(struct smblease_manager *manager);
@@ -282,6 +285,67 @@ uint32_t smblease_manager_list_opens(struct smblease_manager *manager);
 /* The open that was listed at this index. Allocates nothing. DONE, NONE, or NO_SUCH where nothing has the index;
    unless DONE nothing is written. */
 uint32_t smblease_manager_listed_at(struct smblease_manager *manager, size_t index, struct smblease_listed_open *listed);
+
+/* A lease (3.3.1.12), with its client, its key, its file, and how many opens it has. */
+struct smblease_listed_lease {
+    uint64_t client;
+    uint64_t file;
+    uint64_t opens;
+    uint8_t key[16];
+    /* the bits of LeaseState */
+    uint32_t state;
+    /* while a break waits for its acknowledgment, what it is broken to */
+    uint32_t broken_to;
+    uint8_t breaking;
+    uint8_t reserved[31];
+};
+
+/* Lists all leases as they stand, in order of their clients' numbers, then of their keys' bytes; the decisions stay. The
+   list is there until the next call of the first part above. Allocates. DONE, NO_MEMORY or NONE; unless DONE nothing
+   changed. */
+uint32_t smblease_manager_list_leases(struct smblease_manager *manager);
+/* The lease that was listed at this index. Allocates nothing. DONE, NONE, or NO_SUCH where nothing has the index; unless
+   DONE nothing is written. */
+uint32_t smblease_manager_listed_lease_at(struct smblease_manager *manager, size_t index, struct smblease_listed_lease *listed);
+
+/* What a request that waits is. */
+enum smblease_request_that_waits {
+    SMBLEASE_WAITING_CREATE = 1,
+    SMBLEASE_WAITING_READ = 2,
+    SMBLEASE_WAITING_WRITE = 3,
+    SMBLEASE_WAITING_CLOSE = 4
+};
+
+/* A request that waits (3.3.4.2): on which file, of which client, under which tag. What has no meaning for its kind is
+   0. */
+struct smblease_listed_request {
+    uint64_t file;
+    uint64_t client;
+    uint64_t tag;
+    /* of a read, a write or a close its open; of a create the one to be connected again, where has_reconnect is set */
+    uint64_t file_id;
+    /* of a create its lease key and the state that it wants, where has_lease is set */
+    uint8_t key[16];
+    uint32_t state;
+    /* one of enum smblease_request_that_waits */
+    uint32_t kind;
+    /* of a create, as smblease_manager_create takes them */
+    uint8_t access;
+    uint8_t share;
+    uint8_t has_lease;
+    uint8_t durable;
+    uint8_t has_reconnect;
+    uint8_t reserved[27];
+};
+
+/* Lists all requests that wait, in order of their files' numbers, and on each file in order of arrival; the decisions stay.
+   The list is there until the next call of the first part above. Allocates. DONE, NO_MEMORY or NONE; unless DONE nothing
+   changed. */
+uint32_t smblease_manager_list_requests(struct smblease_manager *manager);
+/* The request that was listed at this index, of which enum smblease_request_that_waits says the kind. Allocates nothing.
+   DONE, NONE, or NO_SUCH where nothing has the index; unless DONE nothing is written. */
+uint32_t smblease_manager_listed_request_at(struct smblease_manager *manager, size_t index,
+                                            struct smblease_listed_request *listed);
 
 #ifdef __cplusplus
 }

@@ -12,7 +12,7 @@ use denote.Steps.{nothing}
 use denote.Struct.Struct.{within}
 use denote.Struct.Owning.{shape}
 use Rattle.machines_c.specs.handles.Owned.{handle_owns}
-use Rattle.lease_client.specs.contracts.values.step.Step as step_type
+use Rattle.machines_c.specs.contracts.client.stepping.Stepping as step_type
 use Rattle.machines_c.specs.contracts.client.handle.ClientHandle as handle
 
 abbrev pub word : Ptr → Val

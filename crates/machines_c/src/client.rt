@@ -7,4 +7,5 @@ pub mod handle;
 pub mod note;
 pub mod replies;
 pub mod request;
+pub mod stepping;
 pub mod values;

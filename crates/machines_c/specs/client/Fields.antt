@@ -1,5 +1,5 @@
 -- What a client gave out, as structs hold it: fields that have no meaning there are 0, and so is all that is reserved.
-use Rattle.std.specs.Prelude.{ℕ, List, [], length, replicate, Option, Some, None}
+use Rattle.std.specs.Prelude.{ℕ, List, [], length, replicate, Option, Some, None, if◌then◌else◌, ◌==◌}
 use Rattle.lease_state.specs.Access.{uses_of, allowed_by, bits_of_uses}
 use Rattle.lease_state.specs.State.{state_of, bits_of_state}
 use Rattle.lease_state.specs.Status as status
@@ -8,11 +8,11 @@ use Rattle.lease_client.specs.declared.values.command.Answer as answer
 use Rattle.lease_client.specs.declared.values.command.Refusal as refusal
 use Rattle.lease_client.specs.declared.values.note.Note as note
 use Rattle.lease_client.specs.declared.values.note.Settlement as settlement
-use Rattle.lease_client.specs.declared.values.step.Step.{Step}
 use Rattle.machines_c.specs.handles.Codes.{flag_of}
 use Rattle.machines_c.specs.declared.client.answer.ClientAnswer.{ClientAnswer}
 use Rattle.machines_c.specs.declared.client.request.ClientRequest.{ClientRequest}
 use Rattle.machines_c.specs.declared.client.note.ClientNote.{ClientNote}
+use Rattle.machines_c.specs.declared.client.stepping.Stepping.{Stepping}
 
 abbrev pub number_of_refusal : refusal.Refusal → ℕ
 number_of_refusal refusal.TheVariants.NotOpen = 1
@@ -33,16 +33,21 @@ number_of_settlement settlement.TheVariants.Lost = 4
 abbrev pub bare_answer : ℕ → ClientAnswer
 bare_answer kind = record { length = 0; kind = kind; refusal = 0; status = 0; cached = 0; reserved = replicate 27 0 }
 
-abbrev pub answer_fields : answer.Answer → ClientAnswer
-answer_fields answer.TheVariants.Done = bare_answer 1
-answer_fields answer.TheVariants.Waiting = bare_answer 2
-answer_fields (answer.TheVariants.Bytes bytes cached) =
+-- the status of a reply as it came, where one is known
+abbrev pub status_told : ℕ → status.Status → ℕ
+status_told code failed = if code == 0 then status.code_of failed else code
+
+-- an answer, where the last reply had this status
+abbrev pub answer_fields : ℕ → answer.Answer → ClientAnswer
+answer_fields code answer.TheVariants.Done = bare_answer 1
+answer_fields code answer.TheVariants.Waiting = bare_answer 2
+answer_fields code (answer.TheVariants.Bytes bytes cached) =
     record (bare_answer 3) { length = length bytes; cached = flag_of cached }
-answer_fields (answer.TheVariants.Refused refusal) =
+answer_fields code (answer.TheVariants.Refused refusal) =
     record (bare_answer 4) { refusal = number_of_refusal refusal }
-answer_fields (answer.TheVariants.Failed failed) =
-    record (bare_answer 5) { status = status.code_of failed }
-answer_fields answer.TheVariants.Quiet = bare_answer 6
+answer_fields code (answer.TheVariants.Failed failed) =
+    record (bare_answer 5) { status = status_told code failed }
+answer_fields code answer.TheVariants.Quiet = bare_answer 6
 
 abbrev pub answer_bytes : answer.Answer → List ℕ
 answer_bytes (answer.TheVariants.Bytes bytes cached) = bytes
@@ -117,10 +122,10 @@ note_bytes (note.TheVariants.Believes file state) = []
 note_bytes (note.TheVariants.CachedRead file bytes) = bytes
 
 -- what the last call gave out: nothing, where no machine is held
-abbrev pub requests_of : Option Step → List request.Request
+abbrev pub requests_of : Option Stepping → List request.Request
 requests_of None = []
-requests_of (Some step) = step.requests.items
+requests_of (Some stepping) = stepping.step.requests.items
 
-abbrev pub notes_of : Option Step → List note.Note
+abbrev pub notes_of : Option Stepping → List note.Note
 notes_of None = []
-notes_of (Some step) = step.notes.items
+notes_of (Some stepping) = stepping.step.notes.items

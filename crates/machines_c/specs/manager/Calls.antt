@@ -2,16 +2,15 @@
 use Rattle.std.specs.Prelude.{◌≡◌, ℕ, Bool, true, List, [], map, Option, Some, None}
 use Rattle.break_timers.specs.Numbering.{noted_all, numbers_told}
 use Rattle.break_timers.specs.Timers.{Timers, run_out, stopped, timers_of}
-use Rattle.lease_manager.specs.Listing.{open_of}
 use Rattle.lease_manager.specs.Outs.{IsAfter, decisions}
 use Rattle.lease_manager.specs.Table.{manager_of, server_of}
 use Rattle.lease_manager.specs.declared.values.decision.Decision.{Decision}
-use Rattle.lease_manager.specs.declared.values.open.ListedOpen.{ListedOpen}
 use Rattle.lease_model.specs.values.Keys.{Key}
 use Rattle.manager_model.specs.Handling as rules
 use Rattle.manager_model.specs.Handling.{Handling, Manager}
 use Rattle.machines_c.specs.manager.Asked.{is_over}
 use Rattle.machines_c.specs.manager.Fields.{number_field}
+use Rattle.machines_c.specs.manager.Listed.{IsUnlisted}
 use Rattle.machines_c.specs.declared.manager.managing.Managing.{Managing}
 
 -- what the last call decided: nothing, where no manager is held
@@ -24,18 +23,13 @@ abbrev pub numbered : Option Managing → List ℕ
 numbered None = []
 numbered (Some one) = one.numbers.items
 
--- what was listed since
-abbrev pub listed : Option Managing → List ListedOpen
-listed None = []
-listed (Some one) = one.opens.items
-
 -- The manager did what the rules say, and decided what they say. Of these timers those have gone that the decisions stop,
 -- and those have come that they start. Nothing is listed any longer.
 pub record HandledWith (before : Timers) (rule : Manager → Handling) (old new : Managing) : Type 0 where
   pub after : IsAfter new.manager new.decisions.items (rule (manager_of old.manager))
   pub timers : timers_of new.timers ≡ noted_all (decisions new.decisions.items) before
   pub numbers : new.numbers.items ≡ map number_field (numbers_told (decisions new.decisions.items) before)
-  pub unlisted : new.opens.items ≡ []
+  pub unlisted : IsUnlisted new.listed
 
 abbrev pub Handled : (Manager → Handling) → Managing → Managing → Type 0
 Handled rule old new = HandledWith (timers_of old.timers) rule old new
@@ -60,11 +54,3 @@ MayBeLostUnless is_idle old = is_idle (manager_of old.manager) ≡ true → ⊥
 
 abbrev pub MayBeLostUnlessOver : ℕ → Managing → Type 0
 MayBeLostUnlessOver number old = is_over number (timers_of old.timers) (manager_of old.manager) ≡ true → ⊥
-
--- All opens are listed, and nothing else changed.
-pub record IsListed (old new : Managing) : Type 0 where
-  pub opens : map open_of new.opens.items ≡ (server_of old.manager).opens
-  pub manager : new.manager ≡ old.manager
-  pub decisions : new.decisions ≡ old.decisions
-  pub timers : new.timers ≡ old.timers
-  pub numbers : new.numbers ≡ old.numbers

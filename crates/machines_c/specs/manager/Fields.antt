@@ -4,12 +4,17 @@ use Rattle.lease_state.specs.Access.{bits_of_uses, uses_of, allowed_by}
 use Rattle.lease_state.specs.State.{State, bits_of_state}
 use Rattle.lease_state.specs.Status.{code_of}
 use Rattle.lease_model.specs.messages.Replies.{LeaseGiven}
+use Rattle.lease_model.specs.messages.Requests.{CreateAsk, FileRequest, LeaseOf}
 use Rattle.lease_model.specs.server.State.{Lease, Open}
 use Rattle.machines_c.specs.handles.Codes.{flag_of}
+use Rattle.lease_manager.specs.Listings.{Waiting, lease_listed}
 use Rattle.lease_manager.specs.Outs.{decision_of}
 use Rattle.lease_manager.specs.declared.values.decision.Decision as code
+use Rattle.lease_manager.specs.declared.values.listed.ListedLease.{ListedLease}
 use Rattle.manager_model.specs.Decisions.{Decision}
 use Rattle.machines_c.specs.declared.manager.decision.ManagerDecision.{ManagerDecision}
+use Rattle.machines_c.specs.declared.manager.listed_leases.ListedLeaseFields.{ListedLeaseFields}
+use Rattle.machines_c.specs.declared.manager.listed_requests.RequestFields.{RequestFields}
 use Rattle.machines_c.specs.declared.manager.listing.OpenFields.{OpenFields}
 use Rattle.machines_c.specs.declared.manager.leases.LeaseFields.{LeaseFields}
 
@@ -103,3 +108,66 @@ lease_fields lease = record {
   breaking = flag_of (is_some lease.broken_to);
   reserved = replicate 23 0;
 }
+
+-- a lease, as it is listed
+abbrev pub listed_lease_fields : ListedLease → ListedLeaseFields
+listed_lease_fields one = record {
+  client = one.client.0;
+  file = one.file.0;
+  opens = one.opens;
+  key = one.key.0;
+  state = bits_of_state (lease_listed one).state;
+  broken_to = state_field (lease_listed one).broken_to;
+  breaking = flag_of (is_some (lease_listed one).broken_to);
+  reserved = replicate 31 0;
+}
+
+-- a request that waits, of this kind
+abbrev pub request_of_kind : ℕ → ℕ → Waiting → RequestFields
+request_of_kind kind file_id one = record {
+  file = one.file;
+  client = one.client;
+  tag = one.tag;
+  file_id = file_id;
+  key = replicate 16 0;
+  state = 0;
+  kind = kind;
+  access = 0;
+  share = 0;
+  has_lease = 0;
+  durable = 0;
+  has_reconnect = 0;
+  reserved = replicate 27 0;
+}
+
+-- with the lease that a create asks for
+abbrev pub with_lease_asked : Option LeaseOf → RequestFields → RequestFields
+with_lease_asked None fields = fields
+with_lease_asked (Some asked) fields = record fields {
+  key = asked.key;
+  state = bits_of_state asked.state;
+  has_lease = 1;
+}
+
+-- with the durable open that it asks for again
+abbrev pub with_reconnect : Option ℕ → RequestFields → RequestFields
+with_reconnect None fields = fields
+with_reconnect (Some file_id) fields = record fields { file_id = file_id; has_reconnect = 1 }
+
+abbrev pub with_ask : Option CreateAsk → RequestFields → RequestFields
+with_ask None fields = fields
+with_ask (Some ask) fields =
+    with_reconnect ask.reconnect (with_lease_asked ask.lease (record fields { durable = flag_of ask.durable }))
+
+abbrev pub request_fields_by : Waiting → FileRequest → RequestFields
+request_fields_by one (FileRequest.Create file access share ask) = with_ask ask (record (request_of_kind 1 0 one) {
+  access = bits_of_uses (uses_of access);
+  share = bits_of_uses (allowed_by share);
+})
+request_fields_by one (FileRequest.Read file_id) = request_of_kind 2 file_id one
+request_fields_by one (FileRequest.Write file_id number patch) = request_of_kind 3 file_id one
+request_fields_by one (FileRequest.Close file_id) = request_of_kind 4 file_id one
+
+-- a request that waits, as it is listed
+abbrev pub request_fields : Waiting → RequestFields
+request_fields one = request_fields_by one one.request

@@ -1,10 +1,11 @@
 ghost use Rattle.std.specs.Prelude.{◌≡◌, None, IfSome};
 ghost use Rattle.machines_c.specs.handles.Outcomes.{IsFilled, reading};
-ghost use Rattle.machines_c.specs.client.Fields.{answer_fields, answer_bytes, number_of_refusal};
+ghost use Rattle.machines_c.specs.client.Fields.{answer_fields, answer_bytes, number_of_refusal, status_told};
 
 use crate::client::handle::ClientHandle;
 use crate::handles::{Outcome, fill};
 use lease_client::{Answer, Refusal};
+use lease_state::Status;
 use std::alloc::Global;
 
 /// What the application is answered: `struct smblease_answer`. What has no meaning for the kind is
@@ -18,7 +19,7 @@ pub struct ClientAnswer {
     pub kind: u32,
     /// Why it was refused, from 1 to 7.
     pub refusal: u32,
-    /// With which NTSTATUS it failed.
+    /// With which NTSTATUS it failed, as it came.
     pub status: u32,
     /// Whether the bytes came from the cache.
     pub cached: u8,
@@ -41,6 +42,13 @@ fn number_of(refusal: Refusal) -> u32
     }
 }
 
+// The status of a reply as it came, where one is known.
+fn told_as(status: Status, code: u32) -> u32
+    ensures { result ≡ status_told code status }
+{
+    if code == 0 { status.code() } else { code }
+}
+
 // The bytes of an answer.
 fn bytes_of(answer: &Answer) -> &[u8]
     ensures { result.now ≡ answer_bytes answer.now }
@@ -61,9 +69,9 @@ impl ClientAnswer {
         reserved: [0; 27],
     };
 
-    // The fields that hold an answer.
-    fn holding(answer: &Answer) -> ClientAnswer
-        ensures { result ≡ answer_fields answer.now }
+    // The fields that hold an answer, where the last reply had this status.
+    fn holding(answer: &Answer, code: u32) -> ClientAnswer
+        ensures { result ≡ answer_fields code answer.now }
     {
         let mut fields = ClientAnswer::NOTHING;
         match answer {
@@ -80,7 +88,7 @@ impl ClientAnswer {
             }
             Answer::Failed(status) => {
                 fields.kind = 5;
-                fields.status = status.code();
+                fields.status = told_as(*status, code);
             }
             Answer::Quiet => fields.kind = 6,
         }
@@ -101,16 +109,16 @@ pub extern "C" fn smblease_client_answer(
 ) -> u32
     ensures outcome { result ≡ reading client.old.held }
     ensures same { client.new.held ≡ client.old.held }
-    ensures fields { IfSome client.old.held (λ step. out.new ≡ answer_fields step.answer) }
-    ensures bytes { IfSome client.old.held (λ step. IsFilled (answer_bytes step.answer) room.old room.new) }
+    ensures fields { IfSome client.old.held (λ one. out.new ≡ answer_fields one.code one.step.answer) }
+    ensures bytes { IfSome client.old.held (λ one. IsFilled (answer_bytes one.step.answer) room.old room.new) }
     ensures none { client.old.held ≡ None → (out.new ≡ out.old) × (room.new ≡ room.old) }
 {
     match client.take(alloc) {
         None => Outcome::Nothing.code(),
-        Some(step) => {
-            *out = ClientAnswer::holding(&step.answer);
-            fill(room, bytes_of(&step.answer));
-            client.put(alloc, step);
+        Some(stepping) => {
+            *out = ClientAnswer::holding(&stepping.step.answer, stepping.code);
+            fill(room, bytes_of(&stepping.step.answer));
+            client.put(alloc, stepping);
             Outcome::Done.code()
         }
     }

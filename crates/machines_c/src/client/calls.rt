@@ -10,9 +10,10 @@ ghost use Rattle.lease_client.specs.Steps.{IsStep};
 ghost use Rattle.machines_c.specs.handles.Outcomes.{IsCall, code_of};
 ghost use Rattle.machines_c.specs.declared.handles.outcome.Outcome.TheVariants as outcomes;
 ghost use Rattle.lease_state.specs.State.{bits_of_state};
-ghost use Rattle.machines_c.specs.client.Calls.{Commanded, MayBeLostBy, Took, Linked, Always, Never};
+ghost use Rattle.machines_c.specs.client.Calls.{Commanded, MayBeLostBy, Took, TookWith, Linked, Always, Never};
 
 use crate::client::handle::ClientHandle;
+use crate::client::stepping::Stepping;
 use crate::client::values::ClientGuid;
 use crate::handles::Outcome;
 use crate::values::KeyBytes;
@@ -34,35 +35,46 @@ fn asked_nothing(alloc: Global, client: Client) -> Step
 
 // What stands in the place of a client while it is called: a client with no file, for which nothing
 // is allocated.
-fn placeholder(alloc: Global) -> Step {
-    asked_nothing(alloc, Client::new(alloc, [0; 16], 0).unwrap())
+fn placeholder(alloc: Global) -> Stepping {
+    let client = Client::new(alloc, [0; 16], 0).unwrap();
+    Stepping {
+        step: asked_nothing(alloc, client),
+        code: 0,
+    }
 }
 
 impl ClientHandle {
     // The client that is held, and room for its next step. Nothing is held then.
-    fn take_client(&mut self, alloc: Global) -> Option<(Client, Box<Step>)>
+    fn take_client(&mut self, alloc: Global) -> Option<(Client, Box<Stepping>)>
         ensures taken { MatchOption result (self.old.held ≡ None)
-            (λ taken. IsSomeAnd self.old.held (λ step. step.client ≡ taken.0)) }
+            (λ taken. IsSomeAnd self.old.held (λ one. one.step.client ≡ taken.0)) }
         ensures none { self.new.held ≡ None }
     {
         match self.take(alloc) {
             None => None,
             Some(mut room) => {
-                let Step { client, .. } = Box::replace(&mut room, placeholder(alloc));
+                let Stepping { step, .. } = Box::replace(&mut room, placeholder(alloc));
+                let Step { client, .. } = step;
                 Some((client, room))
             }
         }
     }
 
-    // What a call came to is held from now on; where it ran out of memory nothing is.
-    fn keep(&mut self, alloc: Global, mut room: Box<Step>, came: Result<Step, Memory>) -> Outcome
+    // What a call came to is held from now on, with the status of the reply that it took; where it ran out of memory nothing is.
+    fn keep(
+        &mut self,
+        alloc: Global,
+        mut room: Box<Stepping>,
+        came: Result<Step, Memory>,
+        code: u32,
+    ) -> Outcome
         requires { self.old.held ≡ None }
-        ensures { MatchResult came (λ step. (self.new.held ≡ Some step) × (result ≡ outcomes.Done))
+        ensures { MatchResult came (λ step. (self.new.held ≡ Some (record { step = step; code = code })) × (result ≡ outcomes.Done))
             (λ _. (self.new.held ≡ None) × (result ≡ outcomes.Lost)) }
     {
         match came {
             Ok(step) => {
-                let _old = Box::replace(&mut room, step);
+                let _old = Box::replace(&mut room, Stepping { step, code });
                 self.put(alloc, room);
                 Outcome::Done
             }
@@ -79,19 +91,29 @@ impl ClientHandle {
     {
         match self.take_client(alloc) {
             None => Outcome::Nothing,
-            Some((client, room)) => self.keep(alloc, room, client.app(command)),
+            Some((client, room)) => self.keep(alloc, room, client.app(command), 0),
         }
     }
 
-    /// A message comes from the server.
+    /// A message comes from the server that refuses nothing.
     pub(crate) fn hear(&mut self, alloc: Global, reply: Reply) -> Outcome
         ensures call { IsCall (Took (reply_of reply)) Always (code_of result) self.old.held self.new.held }
         ensures idle { is_idle reply ≡ true → IsCall (Took (reply_of reply)) Never (code_of result) self.old.held self.new.held }
         ensures memory { code_of result ≢ 1 }
     {
+        self.hear_with(alloc, reply, 0)
+    }
+
+    /// A message comes from the server, with this status: 0 where it refuses nothing.
+    pub(crate) fn hear_with(&mut self, alloc: Global, reply: Reply, code: u32) -> Outcome
+        ensures call { IsCall (TookWith code (reply_of reply)) Always (code_of result) self.old.held self.new.held }
+        ensures idle { is_idle reply ≡ true
+            → IsCall (TookWith code (reply_of reply)) Never (code_of result) self.old.held self.new.held }
+        ensures memory { code_of result ≢ 1 }
+    {
         match self.take_client(alloc) {
             None => Outcome::Nothing,
-            Some((client, room)) => self.keep(alloc, room, client.take(reply)),
+            Some((client, room)) => self.keep(alloc, room, client.take(reply), code),
         }
     }
 }
@@ -108,12 +130,12 @@ pub extern "C" fn smblease_client_new(
     files: u8,
 ) -> u32
     ensures new { result ≡ 0 → IsSomeAnd client.new.held
-        (λ step. IsStep step (quiet_step (clients.new_client guid.now.bytes files))) }
+        (λ one. IsStep one.step (quiet_step (clients.new_client guid.now.bytes files))) }
     ensures unchanged { result ≢ 0 → (result ≡ 1) × (client.new.held ≡ client.old.held) }
 {
     match fresh(alloc, guid, files) {
-        Ok(step) => {
-            client.put(alloc, step);
+        Ok(stepping) => {
+            client.put(alloc, stepping);
             Outcome::Done.code()
         }
         Err(_) => Outcome::NoMemory.code(),
@@ -121,11 +143,12 @@ pub extern "C" fn smblease_client_new(
 }
 
 // A new client in a box.
-fn fresh(alloc: Global, guid: &ClientGuid, files: u8) -> Result<Box<Step>, Memory>
-    ensures { IfOk result (λ step. IsStep step.value (quiet_step (clients.new_client guid.now.bytes files))) }
+fn fresh(alloc: Global, guid: &ClientGuid, files: u8) -> Result<Box<Stepping>, Memory>
+    ensures { IfOk result (λ one. IsStep one.value.step (quiet_step (clients.new_client guid.now.bytes files))) }
 {
     let client = Client::new(alloc, guid.bytes, files)?;
-    Ok(Box::new(alloc, asked_nothing(alloc, client))?)
+    let step = asked_nothing(alloc, client);
+    Ok(Box::new(alloc, Stepping { step, code: 0 })?)
 }
 
 /// Frees the machine and what its last call gave out; the handle holds none then. Where it holds
@@ -146,7 +169,7 @@ pub extern "C" fn smblease_client_connect(alloc: Global, client: &mut ClientHand
 {
     match client.take_client(alloc) {
         None => Outcome::Nothing.code(),
-        Some((machine, room)) => client.keep(alloc, room, machine.connect()).code(),
+        Some((machine, room)) => client.keep(alloc, room, machine.connect(), 0).code(),
     }
 }
 
@@ -160,7 +183,7 @@ pub extern "C" fn smblease_client_notice(alloc: Global, client: &mut ClientHandl
 {
     match client.take_client(alloc) {
         None => Outcome::Nothing.code(),
-        Some((machine, room)) => client.keep(alloc, room, machine.notice()).code(),
+        Some((machine, room)) => client.keep(alloc, room, machine.notice(), 0).code(),
     }
 }
 
@@ -168,15 +191,15 @@ pub extern "C" fn smblease_client_notice(alloc: Global, client: &mut ClientHandl
 /// LeaseState. 0 where the file isn't open, or there is no machine.
 #[unsafe(no_mangle)]
 pub extern "C" fn smblease_client_belief(alloc: Global, client: &mut ClientHandle, file: u8) -> u32
-    ensures state { IfSome client.old.held (λ step. result ≡ bits_of_state (clients.belief (client_of step.client) file)) }
+    ensures state { IfSome client.old.held (λ one. result ≡ bits_of_state (clients.belief (client_of one.step.client) file)) }
     ensures none { client.old.held ≡ None → result ≡ 0 }
     ensures same { client.new.held ≡ client.old.held }
 {
     match client.take(alloc) {
         None => 0,
-        Some(step) => {
-            let bits = step.client.belief(FileNo(file)).to_wire();
-            client.put(alloc, step);
+        Some(stepping) => {
+            let bits = stepping.step.client.belief(FileNo(file)).to_wire();
+            client.put(alloc, stepping);
             bits
         }
     }

@@ -1,9 +1,9 @@
 ghost use Rattle.std.specs.Prelude.{◌≡◌, Option, Some, None};
 ghost use Rattle.std.specs.Option.{option_map};
-ghost use Rattle.lease_client.specs.declared.values.step.Step.{Step};
+ghost use Rattle.machines_c.specs.declared.client.stepping.Stepping.{Stepping};
 
+use crate::client::stepping::Stepping;
 use crate::handles::Loose;
-use lease_client::Step;
 use std::alloc::Global;
 use std::marker::Model;
 use std::mem;
@@ -13,12 +13,12 @@ use std::ptr::null_mut;
 #[repr(C)]
 pub struct ClientHandle {
     at: *mut u8,
-    pub ghost held: { Option Step },
+    pub ghost held: { Option Stepping },
 }
 
 impl Model for ClientHandle {
     ghost use Rattle.machines_c.specs.handles.Owned.{handle_owns};
-    ghost use Rattle.lease_client.specs.contracts.values.step.Step.{the_row};
+    ghost use Rattle.machines_c.specs.contracts.client.stepping.Stepping.{the_row};
 
     ghost also_owns = { λ handle. handle_owns the_row handle.held handle.at };
 }
@@ -34,7 +34,7 @@ impl ClientHandle {
         ClientHandle { at: null_mut() }
     }
 
-    fn of(loose: Loose<Step, Global>) -> ClientHandle
+    fn of(loose: Loose<Stepping, Global>) -> ClientHandle
         ensures { result.held ≡ Some loose.value }
     {
         let Loose { at, alloc: _ } = loose;
@@ -42,7 +42,7 @@ impl ClientHandle {
     }
 
     /// What is held, as its pointer.
-    pub(crate) fn into_loose(self, alloc: Global) -> Option<Loose<Step, Global>>
+    pub(crate) fn into_loose(self, alloc: Global) -> Option<Loose<Stepping, Global>>
         ensures { option_map (λ loose. loose.value) result ≡ self.held }
     {
         let ClientHandle { at } = self;
@@ -50,14 +50,14 @@ impl ClientHandle {
             None
         } else {
             Some(Loose {
-                at: at as *mut Step,
+                at: at as *mut Stepping,
                 alloc,
             })
         }
     }
 
     /// What is held is taken out.
-    pub(crate) fn take(&mut self, alloc: Global) -> Option<Box<Step>>
+    pub(crate) fn take(&mut self, alloc: Global) -> Option<Box<Stepping>>
         ensures taken { option_map (λ step. step.value) result ≡ self.old.held }
         ensures none { self.new.held ≡ None }
     {
@@ -68,7 +68,7 @@ impl ClientHandle {
     }
 
     /// This is held from now on, and what was held is freed.
-    pub(crate) fn put(&mut self, alloc: Global, step: Box<Step>)
+    pub(crate) fn put(&mut self, alloc: Global, step: Box<Stepping>)
         ensures { self.new.held ≡ Some step.value }
     {
         let old = mem::replace(self, ClientHandle::of(Loose::of(step)));

@@ -129,9 +129,9 @@ pub extern "C" fn smblease_client_note_count(alloc: Global, client: &mut ClientH
 {
     match client.take(alloc) {
         None => 0,
-        Some(step) => {
-            let count = step.notes.len();
-            client.put(alloc, step);
+        Some(stepping) => {
+            let count = stepping.step.notes.len();
+            client.put(alloc, stepping);
             count
         }
     }
@@ -159,9 +159,9 @@ pub extern "C" fn smblease_client_note_at(
 {
     match client.take(alloc) {
         None => Outcome::Nothing.code(),
-        Some(step) => {
-            let outcome = tell(step.notes.get(index), out, room);
-            client.put(alloc, step);
+        Some(stepping) => {
+            let outcome = tell(stepping.step.notes.get(index), out, room);
+            client.put(alloc, stepping);
             outcome.code()
         }
     }

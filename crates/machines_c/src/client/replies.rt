@@ -4,7 +4,7 @@ ghost use Rattle.machines_c.specs.handles.Codes as codes;
 ghost use Rattle.lease_model.specs.messages.FromBytes.{notice_in, acknowledged_in};
 ghost use Rattle.lease_model.specs.messages.Replies as told;
 ghost use Rattle.machines_c.specs.client.Asked.{created};
-ghost use Rattle.machines_c.specs.client.Calls.{Took, Always, Never};
+ghost use Rattle.machines_c.specs.client.Calls.{Took, TookWith, Always, Never};
 
 use crate::client::handle::ClientHandle;
 use crate::client::values::BreakMessage;
@@ -48,8 +48,8 @@ pub extern "C" fn smblease_client_take_created(
     }
 }
 
-/// The server opened no file. A status that the machines have no name for is that of a request that
-/// failed, here and below.
+/// The server opened no file. A status that the machines have no name for is to them that of a request
+/// that failed, here and below; an answer that fails by it tells it as it came.
 ///
 /// Returns 0; 2 where memory ran out, and the machine is lost; 3 where there is none.
 #[unsafe(no_mangle)]
@@ -59,12 +59,12 @@ pub extern "C" fn smblease_client_take_create_failed(
     file: u8,
     status: u32,
 ) -> u32
-    ensures { IsCall (Took (told.Reply.CreateFailed file (codes.status_of status))) Always
+    ensures { IsCall (TookWith status (told.Reply.CreateFailed file (codes.status_of status))) Always
         result client.old.held client.new.held }
 {
-    let (file, status) = (FileNo(file), status_of(status));
+    let (file, code, status) = (FileNo(file), status, status_of(status));
     client
-        .hear(alloc, Reply::CreateFailed { file, status })
+        .hear_with(alloc, Reply::CreateFailed { file, status }, code)
         .code()
 }
 
@@ -98,11 +98,13 @@ pub extern "C" fn smblease_client_take_read_failed(
     file_id: u64,
     status: u32,
 ) -> u32
-    ensures { IsCall (Took (told.Reply.ReadFailed file_id (codes.status_of status))) Always
+    ensures { IsCall (TookWith status (told.Reply.ReadFailed file_id (codes.status_of status))) Always
         result client.old.held client.new.held }
 {
-    let (fid, status) = (FileId(file_id), status_of(status));
-    client.hear(alloc, Reply::ReadFailed { fid, status }).code()
+    let (fid, code, status) = (FileId(file_id), status, status_of(status));
+    client
+        .hear_with(alloc, Reply::ReadFailed { fid, status }, code)
+        .code()
 }
 
 /// The server did the write of this number (3.2.5.12). The outcomes are those of
@@ -130,16 +132,16 @@ pub extern "C" fn smblease_client_take_write_failed(
     number: u64,
     status: u32,
 ) -> u32
-    ensures { IsCall (Took (told.Reply.WriteFailed file_id number (codes.status_of status))) Always
+    ensures { IsCall (TookWith status (told.Reply.WriteFailed file_id number (codes.status_of status))) Always
         result client.old.held client.new.held }
 {
-    let (fid, status) = (FileId(file_id), status_of(status));
+    let (fid, code, status) = (FileId(file_id), status, status_of(status));
     let reply = Reply::WriteFailed {
         fid,
         number,
         status,
     };
-    client.hear(alloc, reply).code()
+    client.hear_with(alloc, reply, code).code()
 }
 
 /// The server closed an open. Returns 0, or 3 where there is no machine; the machine is never lost.
@@ -163,12 +165,12 @@ pub extern "C" fn smblease_client_take_close_failed(
     file_id: u64,
     status: u32,
 ) -> u32
-    ensures { IsCall (Took (told.Reply.CloseFailed file_id (codes.status_of status))) Never
+    ensures { IsCall (TookWith status (told.Reply.CloseFailed file_id (codes.status_of status))) Never
         result client.old.held client.new.held }
 {
-    let (fid, status) = (FileId(file_id), status_of(status));
+    let (fid, code, status) = (FileId(file_id), status, status_of(status));
     client
-        .hear(alloc, Reply::CloseFailed { fid, status })
+        .hear_with(alloc, Reply::CloseFailed { fid, status }, code)
         .code()
 }
 
@@ -207,9 +209,11 @@ pub extern "C" fn smblease_client_take_ack_failed(
     client: &mut ClientHandle,
     status: u32,
 ) -> u32
-    ensures { IsCall (Took (told.Reply.AckFailed (codes.status_of status))) Never
+    ensures { IsCall (TookWith status (told.Reply.AckFailed (codes.status_of status))) Never
         result client.old.held client.new.held }
 {
-    let status = status_of(status);
-    client.hear(alloc, Reply::AckFailed { status }).code()
+    let (code, status) = (status, status_of(status));
+    client
+        .hear_with(alloc, Reply::AckFailed { status }, code)
+        .code()
 }

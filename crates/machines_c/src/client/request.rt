@@ -120,9 +120,9 @@ pub extern "C" fn smblease_client_request_count(alloc: Global, client: &mut Clie
 {
     match client.take(alloc) {
         None => 0,
-        Some(step) => {
-            let count = step.requests.len();
-            client.put(alloc, step);
+        Some(stepping) => {
+            let count = stepping.step.requests.len();
+            client.put(alloc, stepping);
             count
         }
     }
@@ -150,9 +150,9 @@ pub extern "C" fn smblease_client_request_at(
 {
     match client.take(alloc) {
         None => Outcome::Nothing.code(),
-        Some(step) => {
-            let outcome = tell(step.requests.get(index), out, room);
-            client.put(alloc, step);
+        Some(stepping) => {
+            let outcome = tell(stepping.step.requests.get(index), out, room);
+            client.put(alloc, stepping);
             outcome.code()
         }
     }

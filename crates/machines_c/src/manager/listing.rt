@@ -1,7 +1,7 @@
 ghost use Rattle.std.specs.Prelude.{◌≡◌, ◌≢◌, ◌≤◌, None, IfSome, OnOk, OnErr, slice_get, IsSomeAnd};
 ghost use Rattle.machines_c.specs.declared.handles.outcome.Outcome.TheVariants as outcomes;
 ghost use Rattle.lease_manager.specs.Listing.{open_of};
-ghost use Rattle.machines_c.specs.manager.Calls.{listed, IsListed};
+ghost use Rattle.machines_c.specs.manager.Listed.{AreOpensListed, opens_listed};
 ghost use Rattle.machines_c.specs.manager.Fields.{open_fields};
 
 use crate::handles::Outcome;
@@ -63,11 +63,11 @@ impl OpenFields {
 
 impl Managing {
     // Lists the opens.
-    fn list(&mut self) -> Result<(), Memory>
-        ensures listed { OnOk result (IsListed self.old self.new) }
+    fn list_opens(&mut self) -> Result<(), Memory>
+        ensures listed { OnOk result (AreOpensListed self.old self.new) }
         ensures err { OnErr result (self.new ≡ self.old) }
     {
-        self.opens = self.manager.opens()?;
+        self.listed.opens = self.manager.opens()?;
         Ok(())
     }
 }
@@ -78,7 +78,7 @@ impl Managing {
 /// manager.
 #[unsafe(no_mangle)]
 pub extern "C" fn smblease_manager_list_opens(alloc: Global, manager: &mut ManagerHandle) -> u32
-    ensures listed { result ≡ 0 → IfSome manager.old.held (λ old. IsSomeAnd manager.new.held (IsListed old)) }
+    ensures listed { result ≡ 0 → IfSome manager.old.held (λ old. IsSomeAnd manager.new.held (AreOpensListed old)) }
     ensures unchanged { result ≢ 0 → manager.new.held ≡ manager.old.held }
     ensures some { manager.old.held ≢ None → result ≤ 1 }
     ensures none { manager.old.held ≡ None → result ≡ 3 }
@@ -86,7 +86,7 @@ pub extern "C" fn smblease_manager_list_opens(alloc: Global, manager: &mut Manag
     match manager.take(alloc) {
         None => Outcome::Nothing.code(),
         Some(mut managing) => {
-            let outcome = match managing.list() {
+            let outcome = match managing.list_opens() {
                 Ok(()) => Outcome::Done,
                 Err(_) => Outcome::NoMemory,
             };
@@ -123,16 +123,16 @@ pub extern "C" fn smblease_manager_listed_at(
     out: &mut OpenFields,
 ) -> u32
     ensures same { manager.new.held ≡ manager.old.held }
-    ensures given { IfSome (slice_get (listed manager.old.held) index) (λ one. (result ≡ 0)
+    ensures given { IfSome (slice_get (opens_listed manager.old.held) index) (λ one. (result ≡ 0)
         × (out.new ≡ open_fields (open_of one))) }
-    ensures nothing { slice_get (listed manager.old.held) index ≡ None → out.new ≡ out.old }
-    ensures no_index { manager.old.held ≢ None → slice_get (listed manager.old.held) index ≡ None → result ≡ 4 }
+    ensures nothing { slice_get (opens_listed manager.old.held) index ≡ None → out.new ≡ out.old }
+    ensures no_index { manager.old.held ≢ None → slice_get (opens_listed manager.old.held) index ≡ None → result ≡ 4 }
     ensures none { manager.old.held ≡ None → result ≡ 3 }
 {
     match manager.take(alloc) {
         None => Outcome::Nothing.code(),
         Some(managing) => {
-            let outcome = tell(managing.opens.as_slice(), index, out);
+            let outcome = tell(managing.listed.opens.as_slice(), index, out);
             manager.put(alloc, managing);
             outcome.code()
         }

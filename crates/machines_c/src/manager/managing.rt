@@ -17,13 +17,14 @@ ghost use Rattle.machines_c.specs.manager.Coming.{Came, is_idle};
 ghost use Rattle.machines_c.specs.manager.Fields.{number_field};
 
 use crate::manager::coming::Coming;
+use crate::manager::listed::Listed;
 use crate::manager::numbering::note_all;
 use break_timers::{BreakNo, BreakTimers};
-use lease_manager::{Ask, ClientNo, Decision, Extent, FileNo, LeaseName, ListedOpen, Manager, Tag};
+use lease_manager::{Ask, ClientNo, Decision, Extent, FileNo, LeaseName, Manager, Tag};
 use lease_state::{FileId, LeaseKey, LeaseState, Memory};
 use std::alloc::Global;
 
-/// A manager, the decisions of its last call, the timers of breaks, and the opens that were listed since.
+/// A manager, the decisions of its last call, the timers of breaks, and what was listed since.
 #[derive(Debug, Drop)]
 pub struct Managing {
     pub manager: Manager,
@@ -31,7 +32,7 @@ pub struct Managing {
     pub timers: BreakTimers,
     /// Of each decision, the number of the timer that it starts, or 0.
     pub numbers: Vec<u64>,
-    pub opens: Vec<ListedOpen>,
+    pub listed: Listed,
 }
 
 impl Managing {
@@ -42,7 +43,7 @@ impl Managing {
         ensures numbers { OnOk result (self.new.numbers.items
             ≡ map number_field (numbers_told (decisions self.old.decisions.items) (timers_of self.old.timers))) }
         ensures same { OnOk result ((self.new.manager ≡ self.old.manager) × (self.new.decisions ≡ self.old.decisions)
-            × (self.new.opens ≡ self.old.opens)) }
+            × (self.new.listed ≡ self.old.listed)) }
         ensures silent { decisions self.old.decisions.items ≡ [] → IsOk result }
     {
         self.numbers.clear();
@@ -75,7 +76,7 @@ impl Managing {
         ensures after { OnOk result (Handled (λ one. rules.join one client.0) self.old self.new) }
         ensures idle { is_present client.0 (manager_of self.old.manager) ≡ true → IsOk result }
     {
-        self.opens = Vec::new(alloc);
+        self.listed = Listed::nothing(alloc);
         self.decisions = Vec::new(alloc);
         self.manager.join(client)?;
         self.note()
@@ -87,7 +88,7 @@ impl Managing {
             (Handled (λ one. rules.receive one client.0 tag.0 (request_like ask)) self.old self.new) }
         ensures idle { is_absent client.0 (manager_of self.old.manager) ≡ true → IsOk result }
     {
-        self.opens = Vec::new(alloc);
+        self.listed = Listed::nothing(alloc);
         self.manager.ask(client, tag, ask, &mut self.decisions)?;
         self.note()
     }
@@ -104,7 +105,7 @@ impl Managing {
             (Some (record { key = key.0; state = state_of state }))) self.old self.new) }
         ensures idle { is_absent client.0 (manager_of self.old.manager) ≡ true → IsOk result }
     {
-        self.opens = Vec::new(alloc);
+        self.listed = Listed::nothing(alloc);
         self.manager
             .acknowledge(client, key, state, &mut self.decisions)?;
         self.note()
@@ -115,7 +116,7 @@ impl Managing {
         ensures after { OnOk result (Handled (λ one. rules.acknowledge one client.0 None) self.old self.new) }
         ensures idle { is_absent client.0 (manager_of self.old.manager) ≡ true → IsOk result }
     {
-        self.opens = Vec::new(alloc);
+        self.listed = Listed::nothing(alloc);
         self.manager
             .acknowledge_malformed(client, &mut self.decisions)?;
         self.note()
@@ -126,7 +127,7 @@ impl Managing {
         ensures after { OnOk result (Handled (λ one. rules.cut one client.0) self.old self.new) }
         ensures idle { is_absent client.0 (manager_of self.old.manager) ≡ true → IsOk result }
     {
-        self.opens = Vec::new(alloc);
+        self.listed = Listed::nothing(alloc);
         self.manager.cut(client, &mut self.decisions)?;
         self.note()
     }
@@ -136,7 +137,7 @@ impl Managing {
         ensures after { OnOk result (Expired (key_of client.0 key.0) self.old self.new) }
         ensures idle { is_settled client.0 key.0 (manager_of self.old.manager) ≡ true → IsOk result }
     {
-        self.opens = Vec::new(alloc);
+        self.listed = Listed::nothing(alloc);
         self.timers.stop(LeaseName { client, bytes: key });
         self.manager.expire(client, key, &mut self.decisions)?;
         self.note()
@@ -147,7 +148,7 @@ impl Managing {
         ensures after { OnOk result (RunOut number.0 self.old self.new) }
         ensures idle { is_over number.0 (timers_of self.old.timers) (manager_of self.old.manager) ≡ true → IsOk result }
     {
-        self.opens = Vec::new(alloc);
+        self.listed = Listed::nothing(alloc);
         self.decisions.clear();
         if let Some(key) = self.timers.run_out(number) {
             self.manager
@@ -161,7 +162,7 @@ impl Managing {
         ensures after { OnOk result (Handled (λ one. rules.scavenge one fid.0) self.old self.new) }
         ensures idle { is_gone fid.0 (manager_of self.old.manager) ≡ true → IsOk result }
     {
-        self.opens = Vec::new(alloc);
+        self.listed = Listed::nothing(alloc);
         self.manager.scavenge(fid, &mut self.decisions)?;
         self.note()
     }
@@ -177,7 +178,7 @@ impl Managing {
         ensures after { OnOk result (Handled (λ one. rules.withdraw one file.0 client.0 tag.0) self.old self.new) }
         ensures idle { is_answered client.0 tag.0 file.0 (manager_of self.old.manager) ≡ true → IsOk result }
     {
-        self.opens = Vec::new(alloc);
+        self.listed = Listed::nothing(alloc);
         self.manager
             .withdraw(file, client, tag, &mut self.decisions)?;
         self.note()
@@ -195,7 +196,7 @@ impl Managing {
         ensures { OnOk result (Handled (λ one. rules.give_up one
             (key_under client.0 (option_map (λ bytes. bytes.0) key)) file.0 (extent_of extent)) self.old self.new) }
     {
-        self.opens = Vec::new(alloc);
+        self.listed = Listed::nothing(alloc);
         self.manager
             .give_up(client, key, file, extent, &mut self.decisions)?;
         self.note()
@@ -213,7 +214,7 @@ impl Managing {
             self.old self.new) }
         ensures idle { is_absent client.0 (manager_of self.old.manager) ≡ true → IsOk result }
     {
-        self.opens = Vec::new(alloc);
+        self.listed = Listed::nothing(alloc);
         self.manager
             .leave(client, file_ids, tags, &mut self.decisions)?;
         self.note()

@@ -1,11 +1,13 @@
 ghost use Rattle.std.specs.Prelude.{◌≡◌, ◌≢◌, [], Some, None, IfOk, IfNone, IfSome, IsSomeAnd};
 ghost use Rattle.break_timers.specs.Timers.{no_timers, timers_of};
 ghost use Rattle.machines_c.specs.handles.Rules.{rules_given};
+ghost use Rattle.machines_c.specs.manager.Listed.{IsUnlisted};
 ghost use Rattle.lease_manager.specs.Table.{manager_of};
 ghost use Rattle.manager_model.specs.Hosting.{fresh_manager};
 
 use crate::handles::{Outcome, rules_of};
 use crate::manager::handle::ManagerHandle;
+use crate::manager::listed::Listed;
 use crate::manager::managing::Managing;
 use break_timers::BreakTimers;
 use lease_manager::{FileNo, Manager};
@@ -18,14 +20,14 @@ fn managing(alloc: Global, rules: Rules, files: u64) -> Result<Box<Managing>, Me
     ensures decisions { IfOk result (λ made. made.value.decisions.items ≡ []) }
     ensures timers { IfOk result (λ made. timers_of made.value.timers ≡ no_timers) }
     ensures numbers { IfOk result (λ made. made.value.numbers.items ≡ []) }
-    ensures opens { IfOk result (λ made. made.value.opens.items ≡ []) }
+    ensures listed { IfOk result (λ made. IsUnlisted made.value.listed) }
 {
     let made = Managing {
         manager: Manager::with_files(alloc, rules, FileNo(files)),
         decisions: Vec::new(alloc),
         timers: BreakTimers::new(alloc),
         numbers: Vec::new(alloc),
-        opens: Vec::new(alloc),
+        listed: Listed::nothing(alloc),
     };
     Ok(Box::new(alloc, made)?)
 }
@@ -46,7 +48,7 @@ pub extern "C" fn smblease_manager_new(
 ) -> u32
     ensures new { IfSome (rules_given order rise) (λ rules. result ≡ 0 → IsSomeAnd manager.new.held
         (λ one. (manager_of one.manager ≡ fresh_manager rules files) × (one.decisions.items ≡ [])
-        × (timers_of one.timers ≡ no_timers) × (one.numbers.items ≡ []) × (one.opens.items ≡ []))) }
+        × (timers_of one.timers ≡ no_timers) × (one.numbers.items ≡ []) × IsUnlisted one.listed)) }
     ensures no_memory { IfSome (rules_given order rise) (λ rules. result ≢ 0 → result ≡ 1) }
     ensures no_such { IfNone (rules_given order rise) (result ≡ 4) }
     ensures unchanged { result ≢ 0 → manager.new.held ≡ manager.old.held }

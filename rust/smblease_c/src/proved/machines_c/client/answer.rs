@@ -3,6 +3,7 @@
 use crate::proved::machines_c::client::handle::ClientHandle;
 use crate::proved::machines_c::handles::{Outcome, fill};
 use smblease::proved::lease_client::{Answer, Refusal};
+use smblease::proved::lease_state::Status;
 use std::alloc::Global;
 
 /// What the application is answered: `struct smblease_answer`. What has no meaning for the kind is
@@ -16,7 +17,7 @@ pub struct ClientAnswer {
     pub kind: u32,
     /// Why it was refused, from 1 to 7.
     pub refusal: u32,
-    /// With which NTSTATUS it failed.
+    /// With which NTSTATUS it failed, as it came.
     pub status: u32,
     /// Whether the bytes came from the cache.
     pub cached: u8,
@@ -37,6 +38,11 @@ fn number_of(refusal: Refusal) -> u32 {
     }
 }
 
+// The status of a reply as it came, where one is known.
+fn told_as(status: Status, code: u32) -> u32 {
+    if code == 0 { status.code() } else { code }
+}
+
 // The bytes of an answer.
 fn bytes_of(answer: &Answer) -> &[u8] {
     match answer {
@@ -48,8 +54,8 @@ fn bytes_of(answer: &Answer) -> &[u8] {
 impl ClientAnswer {
     const NOTHING: ClientAnswer = ClientAnswer { length: 0, kind: 0, refusal: 0, status: 0, cached: 0, reserved: [0; 27] };
 
-    // The fields that hold an answer.
-    fn holding(answer: &Answer) -> ClientAnswer {
+    // The fields that hold an answer, where the last reply had this status.
+    fn holding(answer: &Answer, code: u32) -> ClientAnswer {
         let mut fields = ClientAnswer::NOTHING;
         match answer {
             Answer::Done => fields.kind = 1,
@@ -65,7 +71,7 @@ impl ClientAnswer {
             }
             Answer::Failed(status) => {
                 fields.kind = 5;
-                fields.status = status.code();
+                fields.status = told_as(*status, code);
             }
             Answer::Quiet => fields.kind = 6,
         }
@@ -80,10 +86,10 @@ impl ClientAnswer {
 pub fn smblease_client_answer(alloc: Global, client: &mut ClientHandle, out: &mut ClientAnswer, room: &mut [u8]) -> u32 {
     match client.take(alloc) {
         None => Outcome::Nothing.code(),
-        Some(step) => {
-            *out = ClientAnswer::holding(&step.answer);
-            fill(room, bytes_of(&step.answer));
-            client.put(alloc, step);
+        Some(stepping) => {
+            *out = ClientAnswer::holding(&stepping.step.answer, stepping.code);
+            fill(room, bytes_of(&stepping.step.answer));
+            client.put(alloc, stepping);
             Outcome::Done.code()
         }
     }

@@ -3,6 +3,7 @@
 use std::prelude::{Box, Vec};
 
 use crate::proved::machines_c::client::handle::ClientHandle;
+use crate::proved::machines_c::client::stepping::Stepping;
 use crate::proved::machines_c::client::values::ClientGuid;
 use crate::proved::machines_c::handles::Outcome;
 use crate::proved::machines_c::values::KeyBytes;
@@ -17,27 +18,29 @@ fn asked_nothing(alloc: Global, client: Client) -> Step {
 
 // What stands in the place of a client while it is called: a client with no file, for which nothing
 // is allocated.
-fn placeholder(alloc: Global) -> Step {
-    asked_nothing(alloc, Client::new(alloc, [0; 16], 0).unwrap())
+fn placeholder(alloc: Global) -> Stepping {
+    let client = Client::new(alloc, [0; 16], 0).unwrap();
+    Stepping { step: asked_nothing(alloc, client), code: 0 }
 }
 
 impl ClientHandle {
     // The client that is held, and room for its next step. Nothing is held then.
-    fn take_client(&mut self, alloc: Global) -> Option<(Client, Box<Step>)> {
+    fn take_client(&mut self, alloc: Global) -> Option<(Client, Box<Stepping>)> {
         match self.take(alloc) {
             None => None,
             Some(mut room) => {
-                let Step { client, .. } = Box::replace(&mut room, placeholder(alloc));
+                let Stepping { step, .. } = Box::replace(&mut room, placeholder(alloc));
+                let Step { client, .. } = step;
                 Some((client, room))
             }
         }
     }
 
-    // What a call came to is held from now on; where it ran out of memory nothing is.
-    fn keep(&mut self, alloc: Global, mut room: Box<Step>, came: Result<Step, Memory>) -> Outcome {
+    // What a call came to is held from now on, with the status of the reply that it took; where it ran out of memory nothing is.
+    fn keep(&mut self, alloc: Global, mut room: Box<Stepping>, came: Result<Step, Memory>, code: u32) -> Outcome {
         match came {
             Ok(step) => {
-                let _old = Box::replace(&mut room, step);
+                let _old = Box::replace(&mut room, Stepping { step, code });
                 self.put(alloc, room);
                 Outcome::Done
             }
@@ -49,15 +52,20 @@ impl ClientHandle {
     pub(crate) fn app(&mut self, alloc: Global, command: Command) -> Outcome {
         match self.take_client(alloc) {
             None => Outcome::Nothing,
-            Some((client, room)) => self.keep(alloc, room, client.app(command)),
+            Some((client, room)) => self.keep(alloc, room, client.app(command), 0),
         }
     }
 
-    /// A message comes from the server.
+    /// A message comes from the server that refuses nothing.
     pub(crate) fn hear(&mut self, alloc: Global, reply: Reply) -> Outcome {
+        self.hear_with(alloc, reply, 0)
+    }
+
+    /// A message comes from the server, with this status: 0 where it refuses nothing.
+    pub(crate) fn hear_with(&mut self, alloc: Global, reply: Reply, code: u32) -> Outcome {
         match self.take_client(alloc) {
             None => Outcome::Nothing,
-            Some((client, room)) => self.keep(alloc, room, client.take(reply)),
+            Some((client, room)) => self.keep(alloc, room, client.take(reply), code),
         }
     }
 }
@@ -68,8 +76,8 @@ impl ClientHandle {
 /// Returns 0, or 1 where there is no memory; then nothing changed.
 pub fn smblease_client_new(alloc: Global, client: &mut ClientHandle, guid: &ClientGuid, files: u8) -> u32 {
     match fresh(alloc, guid, files) {
-        Ok(step) => {
-            client.put(alloc, step);
+        Ok(stepping) => {
+            client.put(alloc, stepping);
             Outcome::Done.code()
         }
         Err(_) => Outcome::NoMemory.code(),
@@ -77,9 +85,10 @@ pub fn smblease_client_new(alloc: Global, client: &mut ClientHandle, guid: &Clie
 }
 
 // A new client in a box.
-fn fresh(alloc: Global, guid: &ClientGuid, files: u8) -> Result<Box<Step>, Memory> {
+fn fresh(alloc: Global, guid: &ClientGuid, files: u8) -> Result<Box<Stepping>, Memory> {
     let client = Client::new(alloc, guid.bytes, files)?;
-    Ok(Box::new(alloc, asked_nothing(alloc, client))?)
+    let step = asked_nothing(alloc, client);
+    Ok(Box::new(alloc, Stepping { step, code: 0 })?)
 }
 
 /// Frees the machine and what its last call gave out; the handle holds none then. Where it holds
@@ -94,7 +103,7 @@ pub fn smblease_client_free(alloc: Global, client: &mut ClientHandle) {
 pub fn smblease_client_connect(alloc: Global, client: &mut ClientHandle) -> u32 {
     match client.take_client(alloc) {
         None => Outcome::Nothing.code(),
-        Some((machine, room)) => client.keep(alloc, room, machine.connect()).code(),
+        Some((machine, room)) => client.keep(alloc, room, machine.connect(), 0).code(),
     }
 }
 
@@ -105,7 +114,7 @@ pub fn smblease_client_connect(alloc: Global, client: &mut ClientHandle) -> u32 
 pub fn smblease_client_notice(alloc: Global, client: &mut ClientHandle) -> u32 {
     match client.take_client(alloc) {
         None => Outcome::Nothing.code(),
-        Some((machine, room)) => client.keep(alloc, room, machine.notice()).code(),
+        Some((machine, room)) => client.keep(alloc, room, machine.notice(), 0).code(),
     }
 }
 
@@ -114,9 +123,9 @@ pub fn smblease_client_notice(alloc: Global, client: &mut ClientHandle) -> u32 {
 pub fn smblease_client_belief(alloc: Global, client: &mut ClientHandle, file: u8) -> u32 {
     match client.take(alloc) {
         None => 0,
-        Some(step) => {
-            let bits = step.client.belief(FileNo(file)).to_wire();
-            client.put(alloc, step);
+        Some(stepping) => {
+            let bits = stepping.step.client.belief(FileNo(file)).to_wire();
+            client.put(alloc, stepping);
             bits
         }
     }

@@ -2,8 +2,8 @@
 
 use std::prelude::Box;
 
+use crate::proved::machines_c::client::stepping::Stepping;
 use crate::proved::machines_c::handles::Loose;
-use smblease::proved::lease_client::Step;
 use std::alloc::Global;
 use std::mem;
 use std::ptr::null_mut;
@@ -23,19 +23,19 @@ impl ClientHandle {
         ClientHandle { at: null_mut() }
     }
 
-    fn of(loose: Loose<Step, Global>) -> ClientHandle {
+    fn of(loose: Loose<Stepping, Global>) -> ClientHandle {
         let Loose { at, alloc: _ } = loose;
         ClientHandle { at: at as *mut u8 }
     }
 
     /// What is held, as its pointer.
-    pub(crate) fn into_loose(self, alloc: Global) -> Option<Loose<Step, Global>> {
+    pub(crate) fn into_loose(self, alloc: Global) -> Option<Loose<Stepping, Global>> {
         let ClientHandle { at } = self;
-        if at.is_null() { None } else { Some(Loose { at: at as *mut Step, alloc }) }
+        if at.is_null() { None } else { Some(Loose { at: at as *mut Stepping, alloc }) }
     }
 
     /// What is held is taken out.
-    pub(crate) fn take(&mut self, alloc: Global) -> Option<Box<Step>> {
+    pub(crate) fn take(&mut self, alloc: Global) -> Option<Box<Stepping>> {
         match mem::replace(self, ClientHandle::none()).into_loose(alloc) {
             None => None,
             Some(loose) => Some(loose.into_box()),
@@ -43,7 +43,7 @@ impl ClientHandle {
     }
 
     /// This is held from now on, and what was held is freed.
-    pub(crate) fn put(&mut self, alloc: Global, step: Box<Step>) {
+    pub(crate) fn put(&mut self, alloc: Global, step: Box<Stepping>) {
         let old = mem::replace(self, ClientHandle::of(Loose::of(step)));
         match old.into_loose(alloc) {
             None => (),

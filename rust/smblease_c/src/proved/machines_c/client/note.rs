@@ -91,9 +91,9 @@ fn tell(note: Option<&Note>, out: &mut ClientNote, room: &mut [u8]) -> Outcome {
 pub fn smblease_client_note_count(alloc: Global, client: &mut ClientHandle) -> usize {
     match client.take(alloc) {
         None => 0,
-        Some(step) => {
-            let count = step.notes.len();
-            client.put(alloc, step);
+        Some(stepping) => {
+            let count = stepping.step.notes.len();
+            client.put(alloc, stepping);
             count
         }
     }
@@ -113,9 +113,9 @@ pub fn smblease_client_note_at(
 ) -> u32 {
     match client.take(alloc) {
         None => Outcome::Nothing.code(),
-        Some(step) => {
-            let outcome = tell(step.notes.get(index), out, room);
-            client.put(alloc, step);
+        Some(stepping) => {
+            let outcome = tell(stepping.step.notes.get(index), out, room);
+            client.put(alloc, stepping);
             outcome.code()
         }
     }

@@ -22,13 +22,13 @@ pub fn smblease_client_take_created(alloc: Global, client: &mut ClientHandle, fi
     }
 }
 
-/// The server opened no file. A status that the machines have no name for is that of a request that
-/// failed, here and below.
+/// The server opened no file. A status that the machines have no name for is to them that of a request
+/// that failed, here and below; an answer that fails by it tells it as it came.
 ///
 /// Returns 0; 2 where memory ran out, and the machine is lost; 3 where there is none.
 pub fn smblease_client_take_create_failed(alloc: Global, client: &mut ClientHandle, file: u8, status: u32) -> u32 {
-    let (file, status) = (FileNo(file), status_of(status));
-    client.hear(alloc, Reply::CreateFailed { file, status }).code()
+    let (file, code, status) = (FileNo(file), status, status_of(status));
+    client.hear_with(alloc, Reply::CreateFailed { file, status }, code).code()
 }
 
 /// The server read a whole file (3.2.5.11). The bytes are copied. The outcomes are those of
@@ -45,8 +45,8 @@ pub fn smblease_client_take_read_done(alloc: Global, client: &mut ClientHandle, 
 
 /// The server read nothing. The outcomes are those of `smblease_client_take_create_failed`.
 pub fn smblease_client_take_read_failed(alloc: Global, client: &mut ClientHandle, file_id: u64, status: u32) -> u32 {
-    let (fid, status) = (FileId(file_id), status_of(status));
-    client.hear(alloc, Reply::ReadFailed { fid, status }).code()
+    let (fid, code, status) = (FileId(file_id), status, status_of(status));
+    client.hear_with(alloc, Reply::ReadFailed { fid, status }, code).code()
 }
 
 /// The server did the write of this number (3.2.5.12). The outcomes are those of
@@ -65,9 +65,9 @@ pub fn smblease_client_take_write_failed(
     number: u64,
     status: u32,
 ) -> u32 {
-    let (fid, status) = (FileId(file_id), status_of(status));
+    let (fid, code, status) = (FileId(file_id), status, status_of(status));
     let reply = Reply::WriteFailed { fid, number, status };
-    client.hear(alloc, reply).code()
+    client.hear_with(alloc, reply, code).code()
 }
 
 /// The server closed an open. Returns 0, or 3 where there is no machine; the machine is never lost.
@@ -78,8 +78,8 @@ pub fn smblease_client_take_closed(alloc: Global, client: &mut ClientHandle, fil
 
 /// The server closed no open. The outcomes are those of `smblease_client_take_closed`.
 pub fn smblease_client_take_close_failed(alloc: Global, client: &mut ClientHandle, file_id: u64, status: u32) -> u32 {
-    let (fid, status) = (FileId(file_id), status_of(status));
-    client.hear(alloc, Reply::CloseFailed { fid, status }).code()
+    let (fid, code, status) = (FileId(file_id), status, status_of(status));
+    client.hear_with(alloc, Reply::CloseFailed { fid, status }, code).code()
 }
 
 /// The server breaks a lease (3.2.5.19.2): the 44 bytes of the notification (2.2.23.2). Bytes that
@@ -96,8 +96,8 @@ pub fn smblease_client_take_ack_done(alloc: Global, client: &mut ClientHandle, m
 
 /// The server refused an acknowledgment. The outcomes are those of `smblease_client_take_closed`.
 pub fn smblease_client_take_ack_failed(alloc: Global, client: &mut ClientHandle, status: u32) -> u32 {
-    let status = status_of(status);
-    client.hear(alloc, Reply::AckFailed { status }).code()
+    let (code, status) = (status, status_of(status));
+    client.hear_with(alloc, Reply::AckFailed { status }, code).code()
 }
 
 /// The functions of this module for C.

@@ -84,9 +84,9 @@ fn tell(request: Option<&Request>, out: &mut ClientRequest, room: &mut [u8]) -> 
 pub fn smblease_client_request_count(alloc: Global, client: &mut ClientHandle) -> usize {
     match client.take(alloc) {
         None => 0,
-        Some(step) => {
-            let count = step.requests.len();
-            client.put(alloc, step);
+        Some(stepping) => {
+            let count = stepping.step.requests.len();
+            client.put(alloc, stepping);
             count
         }
     }
@@ -106,9 +106,9 @@ pub fn smblease_client_request_at(
 ) -> u32 {
     match client.take(alloc) {
         None => Outcome::Nothing.code(),
-        Some(step) => {
-            let outcome = tell(step.requests.get(index), out, room);
-            client.put(alloc, step);
+        Some(stepping) => {
+            let outcome = tell(stepping.step.requests.get(index), out, room);
+            client.put(alloc, stepping);
             outcome.code()
         }
     }

@@ -57,8 +57,8 @@ impl OpenFields {
 
 impl Managing {
     // Lists the opens.
-    fn list(&mut self) -> Result<(), Memory> {
-        self.opens = self.manager.opens()?;
+    fn list_opens(&mut self) -> Result<(), Memory> {
+        self.listed.opens = self.manager.opens()?;
         Ok(())
     }
 }
@@ -71,7 +71,7 @@ pub fn smblease_manager_list_opens(alloc: Global, manager: &mut ManagerHandle) -
     match manager.take(alloc) {
         None => Outcome::Nothing.code(),
         Some(mut managing) => {
-            let outcome = match managing.list() {
+            let outcome = match managing.list_opens() {
                 Ok(()) => Outcome::Done,
                 Err(_) => Outcome::NoMemory,
             };
@@ -100,7 +100,7 @@ pub fn smblease_manager_listed_at(alloc: Global, manager: &mut ManagerHandle, in
     match manager.take(alloc) {
         None => Outcome::Nothing.code(),
         Some(managing) => {
-            let outcome = tell(managing.opens.as_slice(), index, out);
+            let outcome = tell(managing.listed.opens.as_slice(), index, out);
             manager.put(alloc, managing);
             outcome.code()
         }

@@ -3,13 +3,14 @@
 use std::prelude::Vec;
 
 use crate::proved::machines_c::manager::coming::Coming;
+use crate::proved::machines_c::manager::listed::Listed;
 use crate::proved::machines_c::manager::numbering::note_all;
 use smblease::proved::break_timers::{BreakNo, BreakTimers};
-use smblease::proved::lease_manager::{Ask, ClientNo, Decision, Extent, FileNo, LeaseName, ListedOpen, Manager, Tag};
+use smblease::proved::lease_manager::{Ask, ClientNo, Decision, Extent, FileNo, LeaseName, Manager, Tag};
 use smblease::proved::lease_state::{FileId, LeaseKey, LeaseState, Memory};
 use std::alloc::Global;
 
-/// A manager, the decisions of its last call, the timers of breaks, and the opens that were listed since.
+/// A manager, the decisions of its last call, the timers of breaks, and what was listed since.
 #[derive(Debug)]
 pub struct Managing {
     pub manager: Manager,
@@ -17,7 +18,7 @@ pub struct Managing {
     pub timers: BreakTimers,
     /// Of each decision, the number of the timer that it starts, or 0.
     pub numbers: Vec<u64>,
-    pub opens: Vec<ListedOpen>,
+    pub listed: Listed,
 }
 
 impl Managing {
@@ -45,7 +46,7 @@ impl Managing {
 
     // A client connects.
     fn join(&mut self, alloc: Global, client: ClientNo) -> Result<(), Memory> {
-        self.opens = Vec::new(alloc);
+        self.listed = Listed::nothing(alloc);
         self.decisions = Vec::new(alloc);
         self.manager.join(client)?;
         self.note()
@@ -53,35 +54,35 @@ impl Managing {
 
     // A client asks something of a file, under a tag.
     fn ask(&mut self, alloc: Global, client: ClientNo, tag: Tag, ask: Ask) -> Result<(), Memory> {
-        self.opens = Vec::new(alloc);
+        self.listed = Listed::nothing(alloc);
         self.manager.ask(client, tag, ask, &mut self.decisions)?;
         self.note()
     }
 
     // A client acknowledges a break of its lease of this key, with this state.
     fn acknowledge(&mut self, alloc: Global, client: ClientNo, key: LeaseKey, state: LeaseState) -> Result<(), Memory> {
-        self.opens = Vec::new(alloc);
+        self.listed = Listed::nothing(alloc);
         self.manager.acknowledge(client, key, state, &mut self.decisions)?;
         self.note()
     }
 
     // A client sends an acknowledgment that can't be read.
     fn acknowledge_malformed(&mut self, alloc: Global, client: ClientNo) -> Result<(), Memory> {
-        self.opens = Vec::new(alloc);
+        self.listed = Listed::nothing(alloc);
         self.manager.acknowledge_malformed(client, &mut self.decisions)?;
         self.note()
     }
 
     // A client's connection is lost.
     fn cut(&mut self, alloc: Global, client: ClientNo) -> Result<(), Memory> {
-        self.opens = Vec::new(alloc);
+        self.listed = Listed::nothing(alloc);
         self.manager.cut(client, &mut self.decisions)?;
         self.note()
     }
 
     // The timer of the break of a client's lease runs out.
     fn expire(&mut self, alloc: Global, client: ClientNo, key: LeaseKey) -> Result<(), Memory> {
-        self.opens = Vec::new(alloc);
+        self.listed = Listed::nothing(alloc);
         self.timers.stop(LeaseName { client, bytes: key });
         self.manager.expire(client, key, &mut self.decisions)?;
         self.note()
@@ -89,7 +90,7 @@ impl Managing {
 
     // The timer of this number, of a break, runs out.
     fn run_out(&mut self, alloc: Global, number: BreakNo) -> Result<(), Memory> {
-        self.opens = Vec::new(alloc);
+        self.listed = Listed::nothing(alloc);
         self.decisions.clear();
         if let Some(key) = self.timers.run_out(number) {
             self.manager.expire(key.client, key.bytes, &mut self.decisions)?;
@@ -99,14 +100,14 @@ impl Managing {
 
     // The timer of a durable open runs out.
     fn scavenge(&mut self, alloc: Global, fid: FileId) -> Result<(), Memory> {
-        self.opens = Vec::new(alloc);
+        self.listed = Listed::nothing(alloc);
         self.manager.scavenge(fid, &mut self.decisions)?;
         self.note()
     }
 
     // A request that waits on the file is taken back.
     fn withdraw(&mut self, alloc: Global, file: FileNo, client: ClientNo, tag: Tag) -> Result<(), Memory> {
-        self.opens = Vec::new(alloc);
+        self.listed = Listed::nothing(alloc);
         self.manager.withdraw(file, client, tag, &mut self.decisions)?;
         self.note()
     }
@@ -120,14 +121,14 @@ impl Managing {
         file: FileNo,
         extent: Extent,
     ) -> Result<(), Memory> {
-        self.opens = Vec::new(alloc);
+        self.listed = Listed::nothing(alloc);
         self.manager.give_up(client, key, file, extent, &mut self.decisions)?;
         self.note()
     }
 
     /// A client leaves some of its opens, and what it asked under these tags.
     pub(crate) fn leave(&mut self, alloc: Global, client: ClientNo, file_ids: &[FileId], tags: &[Tag]) -> Result<(), Memory> {
-        self.opens = Vec::new(alloc);
+        self.listed = Listed::nothing(alloc);
         self.manager.leave(client, file_ids, tags, &mut self.decisions)?;
         self.note()
     }

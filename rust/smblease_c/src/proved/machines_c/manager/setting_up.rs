@@ -4,6 +4,7 @@ use std::prelude::{Box, Vec};
 
 use crate::proved::machines_c::handles::{Outcome, rules_of};
 use crate::proved::machines_c::manager::handle::ManagerHandle;
+use crate::proved::machines_c::manager::listed::Listed;
 use crate::proved::machines_c::manager::managing::Managing;
 use smblease::proved::break_timers::BreakTimers;
 use smblease::proved::lease_manager::{FileNo, Manager};
@@ -17,7 +18,7 @@ fn managing(alloc: Global, rules: Rules, files: u64) -> Result<Box<Managing>, Me
         decisions: Vec::new(alloc),
         timers: BreakTimers::new(alloc),
         numbers: Vec::new(alloc),
-        opens: Vec::new(alloc),
+        listed: Listed::nothing(alloc),
     };
     Ok(Box::new(alloc, made)?)
 }

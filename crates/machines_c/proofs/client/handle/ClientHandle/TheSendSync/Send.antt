@@ -9,7 +9,7 @@ use Rattle.std.specs.declared.option.Option.{Option}
 use Rattle.std.specs.declared.option.Option.TheVariants.{None, Some}
 use Rattle.machines_c.specs.handles.Owned.{handle_owns}
 use Rattle.machines_c.proofs.Held.{may_free-Keyless}
-use Rattle.lease_client.proofs.values.step.Step.TheSendSync.{the_send}
+use Rattle.machines_c.proofs.client.stepping.Stepping.TheSendSync.{the_send}
 use Rattle.machines_c.proofs.ClientHandles.{R}
 use Rattle.machines_c.specs.contracts.client.handle.ClientHandle.{the_row}
 
