@@ -7,3 +7,4 @@ pub mod Hosting
 pub mod Laws
 pub mod Waiting
 pub mod Worked
+pub mod WorkedOpens

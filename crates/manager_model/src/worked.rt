@@ -1,6 +1,7 @@
 ghost use Rattle.manager_model.specs.Worked.{GivingUpIsTold, LeavingIsTold, LeftIsTold, NoneIsWithdrawn, SharedIsTold};
 ghost use Rattle.manager_model.specs.Worked.{WithdrawnIsTold};
 ghost use Rattle.manager_model.specs.Worked.{WriteIsThere};
+ghost use Rattle.manager_model.specs.WorkedOpens.{AccessesKeepOthersOut, EachIsConnectedAlone, SharesKeepOthersOut};
 
 /// Two clients share a file: the second one's create waits until the first one has flushed and has acknowledged the break of its
 /// lease. Each is answered under its tag, and the host's file has the flushed byte. Does nothing.
@@ -30,4 +31,13 @@ pub fn managers_tell_what_is_left()
 /// A lease gives up all that it caches by one break, for a change without an open. Does nothing.
 pub fn managers_tell_what_is_given_up()
     ensures { GivingUpIsTold }
+{}
+
+/// What an open does, and what it lets others do, is kept as it was asked: another open is refused where one of them does what
+/// the other doesn't let it do, and only there. A durable open that is connected again is there; another of its client isn't.
+/// Does nothing.
+pub fn managers_keep_opens()
+    ensures shares { SharesKeepOthersOut }
+    ensures accesses { AccessesKeepOthersOut }
+    ensures connected { EachIsConnectedAlone }
 {}
