@@ -8,11 +8,19 @@ use std::ports::bytes::Bytes as Shared;
 
 // Contents that nobody holds any more are looked for once there are so many.
 const FEW: usize = 16;
+// The bytes of a number that digests are made of.
+const WORD: usize = 8;
+// How many such numbers a sample has.
+const SAMPLED: usize = 16;
 
-/// The contents of files that were read, by their digests: a later read that gives the same bytes shares them.
-// docs/DECISIONS.md: "Replies on their way share what was read".
+/// The contents of files that were read: a later read that gives the same bytes shares them. Most files weren't changed since
+/// they were read, so what was read last is found by a sample and compared; a digest of all bytes finds what was read before.
+// docs/DESIGN.md: "Replies on their way share what was read".
 #[derive(Debug)]
 pub struct Contents {
+    /// Those read last, by their samples.
+    last: BTreeMap<u64, Shared>,
+    /// All, by their digests.
     kept: BTreeMap<u64, Shared>,
     room: usize,
 }
@@ -20,7 +28,7 @@ pub struct Contents {
 impl Contents {
     /// None yet. Allocates nothing.
     pub fn new(alloc: Global) -> Contents {
-        Contents { kept: BTreeMap::new(alloc), room: FEW }
+        Contents { last: BTreeMap::new(alloc), kept: BTreeMap::new(alloc), room: FEW }
     }
 
     /// These bytes, which are those of an earlier read where it gave the same.
@@ -29,11 +37,22 @@ impl Contents {
     ///
     /// `Memory` where there is none left for the count of those that hold them, or for the list of contents.
     pub fn share(&mut self, bytes: Bytes) -> Result<Shared, Memory> {
-        let digest = digest_of(bytes.as_slice());
-        if let Some(kept) = self.kept.get(&digest) {
-            if kept.as_slice() == bytes.as_slice() {
-                return Ok(kept.clone()?);
-            }
+        let sample = sample_of(bytes.as_slice());
+        if let Some(shared) = found(&self.last, sample, &bytes)? {
+            return Ok(shared);
+        }
+        let shared = self.share_by_digest(bytes)?;
+        if self.last.insert(sample, shared.clone()?).is_err() {
+            return Err(Memory);
+        }
+        Ok(shared)
+    }
+
+    // The same, by the digest of all bytes.
+    fn share_by_digest(&mut self, bytes: Bytes) -> Result<Shared, Memory> {
+        let digest = digest_of(bytes.as_slice(), WORD);
+        if let Some(shared) = found(&self.kept, digest, &bytes)? {
+            return Ok(shared);
         }
         self.make_room();
         let shared = new_shared(bytes)?;
@@ -46,9 +65,18 @@ impl Contents {
     // Contents that nobody else holds are forgotten, where there are many.
     fn make_room(&mut self) {
         if self.kept.len() >= self.room {
+            self.last.clear();
             self.kept.retain(|_, kept| !kept.is_unique());
             self.room = self.kept.len().saturating_mul(2).max(FEW);
         }
+    }
+}
+
+// What is kept under the number, where it is these bytes.
+fn found(kept: &BTreeMap<u64, Shared>, number: u64, bytes: &Bytes) -> Result<Option<Shared>, Memory> {
+    match kept.get(&number) {
+        Some(one) if one.as_slice() == bytes.as_slice() => Ok(Some(one.clone()?)),
+        _ => Ok(None),
     }
 }
 
@@ -59,13 +87,18 @@ fn new_shared(bytes: Bytes) -> Result<Shared, Memory> {
     }
 }
 
-// A number by which contents are found, of their length and of all but the last seven bytes at most. Other contents may have it.
-fn digest_of(bytes: &[u8]) -> u64 {
+// The digest of a few of the bytes.
+fn sample_of(bytes: &[u8]) -> u64 {
+    digest_of(bytes, (bytes.len() / SAMPLED).max(WORD))
+}
+
+// A number by which contents are found, of their length and of the eight bytes at each so many bytes. Other contents may have it.
+fn digest_of(bytes: &[u8], step: usize) -> u64 {
     let mut digest = bytes.len() as u64;
     let mut rest = bytes;
-    while rest.len() >= 8 {
+    while rest.len() >= step {
         digest = (digest.rotate_left(5) ^ LittleEndian::read_u64(rest)).wrapping_mul(0x9e37_79b9_7f4a_7c15);
-        rest = &rest[8..];
+        rest = &rest[step..];
     }
     digest
 }
