@@ -12,7 +12,7 @@ import sys
 import uuid
 
 from file_server import FileServer, Request
-from smblease import Access, Acknowledgment, CreateAsk, LeaseState, MachineLost, Manager, Share
+from smblease import Access, Acknowledgment, CreateAsk, LeaseState, MachineLost, Manager, Rules, Share
 
 LARGEST = (1 << 63) - 1
 
@@ -110,7 +110,7 @@ def main() -> int:
     with open(sys.argv[2], encoding="ascii") as text:
         steps = [it.split() for it in text if it.split() and not it.startswith("#")]
     try:
-        player = Player(FileServer(sys.argv[1], Manager()))
+        player = Player(FileServer(sys.argv[1], Manager(Rules.of("by-key,whole"))))
         for step in steps:
             player.happen(*step)
     except (MachineLost, MemoryError) as fault:

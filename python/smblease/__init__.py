@@ -4,7 +4,8 @@ from smblease.client import Client, lease_key
 from smblease.contexts import Context, CreateAnswer, CreateAsk, append_context, each_context, find_context, replace_data
 from smblease.faults import Fault, MachineLost
 from smblease.manager import Manager
-from smblease.manager_questions import HeldLease, ListedOpen
+from smblease.manager_listings import ListedLease, ListedOpen, ListedRequest, WaitingKind
+from smblease.manager_questions import HeldLease
 from smblease.messages import Acknowledgment, MessageKind, Notification, Response
 from smblease.outs import Changed, Opened, Out, Sent
 from smblease.replies import (AcknowledgeDone, AcknowledgeFailed, Break, Closed, CloseFailed, Created, CreateFailed, ReadDone,
@@ -22,9 +23,9 @@ __all__ = [
     "Access", "AcknowledgeDone", "AcknowledgeFailed", "AcknowledgeRequest", "Acknowledgment", "Answer", "Believes", "Break",
     "CachedRead", "Changed", "Client", "Closed", "CloseFailed", "CloseRequest", "Context", "CreateAnswer", "CreateAsk",
     "CreateFailed", "CreateRequest", "Created", "Done", "Extent", "Failed", "Fault", "FileBytes", "HeldLease", "LeaseState",
-    "ListedOpen", "MachineLost", "Manager", "MessageKind", "Note", "Notification", "Opened", "Order", "Out", "Quiet", "ReadDone",
-    "ReadFailed", "ReadRequest", "Refusal", "Refused", "Reply", "Request", "Response", "Rise", "Rules", "Sent", "Server",
-    "Settled", "Settlement", "Share", "Status", "Step", "Waiting", "WriteDone", "WriteFailed", "WriteRequest", "Wrote",
-    "append_context", "each_context", "find_context", "granted_form", "is_within", "lease_key", "needs_acknowledgment",
-    "opens_conflict", "replace_data",
+    "ListedLease", "ListedOpen", "ListedRequest", "MachineLost", "Manager", "MessageKind", "Note", "Notification", "Opened",
+    "Order", "Out", "Quiet", "ReadDone", "ReadFailed", "ReadRequest", "Refusal", "Refused", "Reply", "Request", "Response",
+    "Rise", "Rules", "Sent", "Server", "Settled", "Settlement", "Share", "Status", "Step", "Waiting", "WaitingKind", "WriteDone",
+    "WriteFailed", "WriteRequest", "Wrote", "append_context", "each_context", "find_context", "granted_form", "is_within",
+    "lease_key", "needs_acknowledgment", "opens_conflict", "replace_data",
 ]

@@ -10,7 +10,10 @@ BYTE, WORD, LONG = 0xFF, 0xFFFF_FFFF, 0xFFFF_FFFF_FFFF_FFFF
 
 
 def number(value: int, most: int, name: str) -> int:
-    found = operator.index(value)
+    try:
+        found = operator.index(value)
+    except TypeError:
+        raise TypeError(f"{name} is a number, and not {value!r}") from None
     if not 0 <= found <= most:
         raise ValueError(f"{name} is a number from 0 to {most}, and not {found}")
     return found
@@ -25,9 +28,12 @@ def are_longs(one: int, two: int, three: int) -> bool:
     return isinstance(every, int) and 0 <= every <= LONG
 
 
-def octets(value: Octets) -> bytes:
+def octets(value: Octets, name: str = "this argument") -> bytes:
     # (`bytes` of a number would be so many zero bytes)
-    return value if isinstance(value, bytes) else bytes(memoryview(value))
+    try:
+        return value if isinstance(value, bytes) else bytes(memoryview(value))
+    except TypeError:
+        raise TypeError(f"{name} is bytes, and not {value!r}") from None
 
 
 def key_octets(value: uuid.UUID) -> bytes:
@@ -45,7 +51,7 @@ def key_of(field: Any) -> uuid.UUID:
     return uuid.UUID(bytes=bytes(field))
 
 
-def counted(value: Octets) -> Tuple[bytes, int]:
+def counted(value: Octets, name: str = "this argument") -> Tuple[bytes, int]:
     """Bytes, and how many they are."""
-    given = octets(value)
+    given = octets(value, name)
     return given, len(given)

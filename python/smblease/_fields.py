@@ -11,7 +11,7 @@ from smblease._arguments import BYTE, LONG, WORD, counted, number, octets
 from smblease.values import Access, LeaseState, Share
 
 # How high numbers may be, and what they are called where they are higher.
-_NUMBERS = {"file": (BYTE, "file"), "file_id": (LONG, "file_id"), "number": (LONG, "write"), "offset": (WORD, "offset"),
+_NUMBERS = {"file": (BYTE, "file"), "file_id": (LONG, "file_id"), "number": (LONG, "number"), "offset": (WORD, "offset"),
             "status": (WORD, "status")}
 _BYTES = ("contexts", "data", "message")
 _KINDS: Dict[str, Any] = {"access": Access, "share": Share, "state": LeaseState, "refusal": steps.Refusal,
@@ -29,11 +29,18 @@ def arguments_of(item: Any) -> Iterator[object]:
         if name in _NUMBERS:
             yield number(value, *_NUMBERS[name])
         elif name in _KINDS:
-            yield _KINDS[name](value).value
+            yield _kind(_KINDS[name], value, name)
         elif type(item) in _MESSAGES:
-            yield ctypes.byref(_message(*_MESSAGES[type(item)], octets(value)))
+            yield ctypes.byref(_message(*_MESSAGES[type(item)], octets(value, name)))
         else:
-            yield from counted(value)
+            yield from counted(value, name)
+
+
+def _kind(kind: Any, value: object, name: str) -> int:
+    try:
+        return int(kind(value).value)
+    except ValueError as fault:
+        raise ValueError(f"{name}: {fault}") from None
 
 
 def _message(kind: Type[ctypes.Structure], name: str, data: bytes) -> ctypes.Structure:

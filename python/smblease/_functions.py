@@ -125,6 +125,10 @@ MANAGER: Dict[str, Signature] = {
     "manager_lease": (c_uint32, (_MANAGER, c_uint64, _KEY, POINTER(structs.HeldLease))),
     "manager_list_opens": (c_uint32, (_MANAGER,)),
     "manager_listed_at": (c_uint32, (_MANAGER, c_size_t, POINTER(structs.ListedOpen))),
+    "manager_list_leases": (c_uint32, (_MANAGER,)),
+    "manager_listed_lease_at": (c_uint32, (_MANAGER, c_size_t, POINTER(structs.ListedLease))),
+    "manager_list_requests": (c_uint32, (_MANAGER,)),
+    "manager_listed_request_at": (c_uint32, (_MANAGER, c_size_t, POINTER(structs.ListedRequest))),
 }
 
 FUNCTIONS: Dict[str, Signature] = {**CODEC, **STATES, **CLIENT, **SERVER, **MANAGER}

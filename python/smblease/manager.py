@@ -15,6 +15,7 @@ from smblease._handles import Outcome
 from smblease._library import in_words, library
 from smblease.contexts import NO_ASK, CreateAsk, ask_struct
 from smblease.manager_decisions import Decision, Decisions, decision_of
+from smblease.manager_listings import ManagerListings
 from smblease.manager_questions import ManagerQuestions, key_struct, maybe_key_struct
 from smblease.messages import Acknowledgment
 from smblease.values import Access, Extent, LeaseState, Order, Rise, Rules, Share
@@ -30,14 +31,16 @@ def _longs(values: Sequence[int], name: str) -> Any:
     return (ctypes.c_uint64 * len(given))(*given) if given else None
 
 
-class Manager(ManagerQuestions):
-    """A manager where nothing is open and no client has joined, of the profile's rules or of others. `files` is the last number
-    of a file.
+class Manager(ManagerQuestions, ManagerListings):
+    """A manager where nothing is open and no client has joined, of rules that are named: `by-key,whole` is what Windows and
+    Samba were seen to do. Under `by-client`, the profile's, a client that opens a file again without a key while it caches
+    writes waits for its own lease's break, and its write-back waits behind that until the timer takes the lease. `files` is the
+    last number of a file.
 
     Where memory runs out within a call, MachineLost is raised: the host cuts all connections, lets go of all that is open, and
     makes a new manager.
 
-    >>> with Manager() as manager:
+    >>> with Manager(Rules.of("by-key,whole")) as manager:
     ...     for client in (1, 2):
     ...         manager.join(client)
     ...     ask = CreateAsk(uuid.UUID(int=1), LeaseState.of("RWH"))
@@ -47,7 +50,7 @@ class Manager(ManagerQuestions):
     (1, 'RH', Waits(client=2, tag=20))
     """
 
-    def __init__(self, rules: Rules = Rules(), files: int = LONG) -> None:
+    def __init__(self, rules: Rules, files: int = LONG) -> None:
         super().__init__(structs.Manager(), library.smblease_manager_free, "manager")
         if not isinstance(rules, Rules):
             raise TypeError(f"rules are needed, as Rules.of('by-key,whole'), and not {rules!r}")
@@ -88,7 +91,7 @@ class Manager(ManagerQuestions):
     def join(self, client: int) -> None:
         """A client connects (3.3.5.1), which decides nothing.
 
-        >>> Manager().join(1)
+        >>> Manager(Rules.of("by-key,whole")).join(1)
         """
         self._decided(library.smblease_manager_join, self._reference, number(client, LONG, "client"))
 
@@ -96,7 +99,7 @@ class Manager(ManagerQuestions):
         """A client's connection is lost (3.3.7.1). Each of its opens ends or waits for it. Nothing is decided of its requests
         that wait.
 
-        >>> Manager().cut(1)
+        >>> Manager(Rules.of("by-key,whole")).cut(1)
         ()
         """
         return self._decided(library.smblease_manager_cut, self._reference, number(client, LONG, "client"))
@@ -106,7 +109,7 @@ class Manager(ManagerQuestions):
         had them goes, and the client stays (3.3.5.6). What isn't the client's is passed over. Where MemoryError is raised,
         nothing changed.
 
-        >>> manager = Manager()
+        >>> manager = Manager(Rules.of("by-key,whole"))
         >>> manager.join(1)
         >>> [opened] = manager.create(1, 10, 5, Access.READ, Share.READ)
         >>> manager.leave(1, [opened.file_id])
@@ -119,7 +122,7 @@ class Manager(ManagerQuestions):
         """The timer of a break runs out (3.3.6.5), by the number that it was told with. A timer need not be stopped: where its
         break has ended nothing is decided, even if the lease is breaking again.
 
-        >>> Manager().run_out(1)
+        >>> Manager(Rules.of("by-key,whole")).run_out(1)
         ()
         """
         return self._decided(library.smblease_manager_run_out, self._reference, number(timer, LONG, "timer"))
@@ -127,7 +130,7 @@ class Manager(ManagerQuestions):
     def expire(self, client: int, key: uuid.UUID) -> Decisions:
         """The break of a client's lease is ended, whatever its timer says, as by an administrator.
 
-        >>> Manager().expire(1, uuid.UUID(int=1))
+        >>> Manager(Rules.of("by-key,whole")).expire(1, uuid.UUID(int=1))
         ()
         """
         return self._decided(library.smblease_manager_expire, self._reference, number(client, LONG, "client"),
@@ -136,7 +139,7 @@ class Manager(ManagerQuestions):
     def scavenge(self, file_id: int) -> Decisions:
         """The timer of a durable open runs out (3.3.6.2).
 
-        >>> Manager().scavenge(1)
+        >>> Manager(Rules.of("by-key,whole")).scavenge(1)
         ()
         """
         return self._decided(library.smblease_manager_scavenge, self._reference, number(file_id, LONG, "file_id"))
@@ -144,7 +147,7 @@ class Manager(ManagerQuestions):
     def create(self, client: int, tag: int, file: int, access: Access, share: Share, ask: CreateAsk = NO_ASK) -> Decisions:
         """A client asks to open a file (3.3.5.9), or to connect a durable open again where `ask.reconnect` names one.
 
-        >>> manager = Manager()
+        >>> manager = Manager(Rules.of("by-key,whole"))
         >>> manager.join(1)
         >>> manager.create(1, 10, 0, Access.READ, Share.READ)
         (Refused(client=1, tag=10, status=3221225524),)
@@ -160,7 +163,7 @@ class Manager(ManagerQuestions):
     def read(self, client: int, tag: int, file_id: int) -> Decisions:
         """A client asks to read by an open (3.3.5.12).
 
-        >>> Manager().read(1, 11, 1)
+        >>> Manager(Rules.of("by-key,whole")).read(1, 11, 1)
         ()
         """
         return self._received(_read, client, tag, file_id)
@@ -168,7 +171,7 @@ class Manager(ManagerQuestions):
     def write(self, client: int, tag: int, file_id: int, fits: bool = True) -> Decisions:
         """A client asks to write by an open (3.3.5.13). `fits`: it ends within what the host allows of a file.
 
-        >>> Manager().write(1, 12, 1)
+        >>> Manager(Rules.of("by-key,whole")).write(1, 12, 1)
         ()
         """
         return self._received(_write, client, tag, file_id, bool(fits))
@@ -176,7 +179,7 @@ class Manager(ManagerQuestions):
     def close_open(self, client: int, tag: int, file_id: int) -> Decisions:
         """A client asks to close an open (3.3.5.10).
 
-        >>> Manager().close_open(1, 13, 1)
+        >>> Manager(Rules.of("by-key,whole")).close_open(1, 13, 1)
         ()
         """
         return self._received(_close, client, tag, file_id)
@@ -184,7 +187,7 @@ class Manager(ManagerQuestions):
     def acknowledge(self, client: int, given: Acknowledgment) -> Decisions:
         """A client acknowledges the break of a lease (3.3.5.22.2).
 
-        >>> Manager().acknowledge(1, Acknowledgment(uuid.UUID(int=1), LeaseState.R))
+        >>> Manager(Rules.of("by-key,whole")).acknowledge(1, Acknowledgment(uuid.UUID(int=1), LeaseState.R))
         ()
         """
         struct = structs.Acknowledgment(key_field(given.key), LeaseState(given.state).value)
@@ -194,7 +197,7 @@ class Manager(ManagerQuestions):
     def acknowledge_malformed(self, client: int) -> Decisions:
         """A client sends an acknowledgment that can't be read.
 
-        >>> manager = Manager()
+        >>> manager = Manager(Rules.of("by-key,whole"))
         >>> manager.join(1)
         >>> manager.acknowledge_malformed(1)
         (NotAcknowledged(client=1, status=3221225485),)
@@ -204,7 +207,7 @@ class Manager(ManagerQuestions):
     def withdraw(self, client: int, tag: int, file: int) -> Decisions:
         """A request that waits on the file is taken back (3.3.5.16).
 
-        >>> Manager().withdraw(1, 10, 5)
+        >>> Manager(Rules.of("by-key,whole")).withdraw(1, 10, 5)
         ()
         """
         return self._decided(library.smblease_manager_withdraw, self._reference, number(client, LONG, "client"),
@@ -214,7 +217,7 @@ class Manager(ManagerQuestions):
         """Other keys on the file than this one of the client's give up as much; with no key each does (own). The host asks
         `given_up` then.
 
-        >>> manager = Manager()
+        >>> manager = Manager(Rules.of("by-key,whole"))
         >>> manager.join(1)
         >>> ask = CreateAsk(uuid.UUID(int=1), LeaseState.of("RWH"))
         >>> [opened] = manager.create(1, 10, 5, Access.READ, Share.READ, ask)

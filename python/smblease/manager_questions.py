@@ -1,16 +1,16 @@
-"""What a manager of leases may be asked, and what it knows of opens and leases. Nothing changes by that."""
+"""What a manager of leases may be asked, and what it knows of a lease. Nothing changes by that."""
 from __future__ import annotations
 
 import ctypes
 import uuid
 from dataclasses import dataclass
-from typing import Any, Callable, Optional, Tuple
+from typing import Callable, Optional
 
 from smblease import _structs as structs
-from smblease._arguments import LONG, key_field, key_octets, key_of, number
+from smblease._arguments import LONG, key_field, key_octets, number
 from smblease._handles import Handle, Outcome
 from smblease._library import library
-from smblease.values import Access, Extent, LeaseState, Share
+from smblease.values import Extent, LeaseState
 
 
 @dataclass(frozen=True)
@@ -23,24 +23,6 @@ class HeldLease:
 
     state: LeaseState
     broken_to: Optional[LeaseState] = None
-
-
-@dataclass(frozen=True)
-class ListedOpen:
-    """An open. One that isn't connected waits for its client.
-
-    >>> ListedOpen(1, 2, 3, None, Access.READ, Share.READ, durable=False, connected=True).file
-    3
-    """
-
-    file_id: int
-    client: int
-    file: int
-    key: Optional[uuid.UUID]
-    access: Access
-    share: Share
-    durable: bool
-    connected: bool
 
 
 def key_struct(key: uuid.UUID) -> structs.Key:
@@ -61,12 +43,6 @@ def maybe_key_struct(key: Optional[uuid.UUID]) -> structs.MaybeKey:
     return structs.MaybeKey() if key is None else structs.MaybeKey(key_field(key), 1)
 
 
-def _open(has: Any) -> ListedOpen:
-    key = key_of(has.key) if has.has_key else None
-    return ListedOpen(int(has.file_id), int(has.client), int(has.file), key, Access(has.access), Share(has.share),
-                      bool(has.durable), bool(has.connected))
-
-
 class ManagerQuestions(Handle[structs.Manager]):
     """The questions that a Manager answers.
 
@@ -83,8 +59,8 @@ class ManagerQuestions(Handle[structs.Manager]):
     def connected(self, client: int) -> bool:
         """Whether a client is connected.
 
-        >>> from smblease import Manager
-        >>> Manager().connected(1)
+        >>> from smblease import Manager, Rules
+        >>> Manager(Rules.of("by-key,whole")).connected(1)
         False
         """
         return bool(self._asked(library.smblease_manager_connected, number(client, LONG, "client")))
@@ -92,8 +68,8 @@ class ManagerQuestions(Handle[structs.Manager]):
     def breaking(self, client: int, key: uuid.UUID) -> bool:
         """Whether a break of a client's lease waits for its acknowledgment.
 
-        >>> from smblease import Manager
-        >>> Manager().breaking(1, uuid.UUID(int=1))
+        >>> from smblease import Manager, Rules
+        >>> Manager(Rules.of("by-key,whole")).breaking(1, uuid.UUID(int=1))
         False
         """
         return bool(self._asked(library.smblease_manager_breaking, number(client, LONG, "client"), ctypes.byref(key_struct(key))))
@@ -101,8 +77,8 @@ class ManagerQuestions(Handle[structs.Manager]):
     def waiting(self, client: int, tag: int, file: int) -> bool:
         """Whether a request of a client under the tag waits on the file.
 
-        >>> from smblease import Manager
-        >>> Manager().waiting(1, 10, 5)
+        >>> from smblease import Manager, Rules
+        >>> Manager(Rules.of("by-key,whole")).waiting(1, 10, 5)
         False
         """
         return bool(self._asked(library.smblease_manager_waiting, number(client, LONG, "client"), number(tag, LONG, "tag"),
@@ -111,8 +87,8 @@ class ManagerQuestions(Handle[structs.Manager]):
     def left_behind(self, file_id: int) -> bool:
         """Whether an open waits for its client to connect again.
 
-        >>> from smblease import Manager
-        >>> Manager().left_behind(1)
+        >>> from smblease import Manager, Rules
+        >>> Manager(Rules.of("by-key,whole")).left_behind(1)
         False
         """
         return bool(self._asked(library.smblease_manager_left_behind, number(file_id, LONG, "file_id")))
@@ -120,8 +96,8 @@ class ManagerQuestions(Handle[structs.Manager]):
     def has_open(self, file_id: int) -> bool:
         """Whether there is an open of this FileId, connected or not.
 
-        >>> from smblease import Manager
-        >>> Manager().has_open(1)
+        >>> from smblease import Manager, Rules
+        >>> Manager(Rules.of("by-key,whole")).has_open(1)
         False
         """
         return bool(self._asked(library.smblease_manager_has_open, number(file_id, LONG, "file_id")))
@@ -129,8 +105,8 @@ class ManagerQuestions(Handle[structs.Manager]):
     def may_read(self, client: int, file_id: int) -> bool:
         """Whether a read by a client's open would be done at once: its host may do it then, before any other call, without one.
 
-        >>> from smblease import Manager
-        >>> Manager().may_read(1, 1)
+        >>> from smblease import Manager, Rules
+        >>> Manager(Rules.of("by-key,whole")).may_read(1, 1)
         False
         """
         return bool(self._asked(library.smblease_manager_may_read, number(client, LONG, "client"),
@@ -139,8 +115,8 @@ class ManagerQuestions(Handle[structs.Manager]):
     def may_write(self, client: int, file_id: int) -> bool:
         """Whether a write that fits, by a client's open, would be done at once and break nothing: as may_read.
 
-        >>> from smblease import Manager
-        >>> Manager().may_write(1, 1)
+        >>> from smblease import Manager, Rules
+        >>> Manager(Rules.of("by-key,whole")).may_write(1, 1)
         False
         """
         return bool(self._asked(library.smblease_manager_may_write, number(client, LONG, "client"),
@@ -150,8 +126,8 @@ class ManagerQuestions(Handle[structs.Manager]):
         """Whether no key on the file but this one of the client's is in the way: none holds handles (HANDLES); none caches
         writes, or caches anything without being broken to nothing (ALL).
 
-        >>> from smblease import Manager
-        >>> Manager().given_up(1, None, 5, Extent.ALL)
+        >>> from smblease import Manager, Rules
+        >>> Manager(Rules.of("by-key,whole")).given_up(1, None, 5, Extent.ALL)
         True
         """
         return bool(self._asked(library.smblease_manager_given_up, number(client, LONG, "client"),
@@ -160,8 +136,8 @@ class ManagerQuestions(Handle[structs.Manager]):
     def open_count(self) -> int:
         """How many opens there are, those that wait for their clients too.
 
-        >>> from smblease import Manager
-        >>> Manager().open_count()
+        >>> from smblease import Manager, Rules
+        >>> Manager(Rules.of("by-key,whole")).open_count()
         0
         """
         return self._asked(library.smblease_manager_open_count)
@@ -169,8 +145,8 @@ class ManagerQuestions(Handle[structs.Manager]):
     def allowed(self, client: int, key: Optional[uuid.UUID], file: int, want: LeaseState) -> LeaseState:
         """What may be granted to a client of the state that it wants. Whether the key is expired isn't looked at.
 
-        >>> from smblease import Manager
-        >>> str(Manager().allowed(1, None, 5, LeaseState.of("RWH")))
+        >>> from smblease import Manager, Rules
+        >>> str(Manager(Rules.of("by-key,whole")).allowed(1, None, 5, LeaseState.of("RWH")))
         'RWH'
         """
         return LeaseState(self._asked(library.smblease_manager_allowed, number(client, LONG, "client"),
@@ -179,8 +155,8 @@ class ManagerQuestions(Handle[structs.Manager]):
     def kept(self, client: int, file: int) -> Optional[int]:
         """The FileId of a client's oldest durable open on a file that waits for it, or None where there is none.
 
-        >>> from smblease import Manager
-        >>> Manager().kept(1, 5) is None
+        >>> from smblease import Manager, Rules
+        >>> Manager(Rules.of("by-key,whole")).kept(1, 5) is None
         True
         """
         found = ctypes.c_uint64()
@@ -191,26 +167,11 @@ class ManagerQuestions(Handle[structs.Manager]):
     def lease(self, client: int, key: uuid.UUID) -> HeldLease:
         """The lease of a client's key; that of a key that no open has holds nothing.
 
-        >>> from smblease import Manager
-        >>> Manager().lease(1, uuid.UUID(int=1))
+        >>> from smblease import Manager, Rules
+        >>> Manager(Rules.of("by-key,whole")).lease(1, uuid.UUID(int=1))
         HeldLease(state=<LeaseState none>, broken_to=None)
         """
         found = structs.HeldLease()
         self._asked(library.smblease_manager_lease, number(client, LONG, "client"), ctypes.byref(key_struct(key)),
                     ctypes.byref(found))
         return HeldLease(LeaseState(found.state), LeaseState(found.broken_to) if found.breaking else None)
-
-    def opens(self) -> Tuple[ListedOpen, ...]:
-        """All opens, in the order of their FileIds. Where there is no memory for the list, MemoryError is raised.
-
-        >>> from smblease import Manager
-        >>> Manager().opens()
-        ()
-        """
-        handle = ctypes.byref(self._handle)
-        with self._lock:
-            self._check(library.smblease_manager_list_opens(handle))
-            found = [structs.ListedOpen() for _ in range(library.smblease_manager_open_count(handle))]
-            for index, one in enumerate(found):
-                self._check(library.smblease_manager_listed_at(handle, index, ctypes.byref(one)))
-        return tuple(map(_open, found))

@@ -75,6 +75,8 @@ static void calls_of_nothing(void) {
     IS(smblease_manager_give_up(&manager, CLIENT, &none, FILE_NO, SMBLEASE_EXTENT_ALL), SMBLEASE_NONE);
     IS(smblease_manager_give_up(&manager, CLIENT, &none, FILE_NO, 0), SMBLEASE_NO_SUCH);
     IS(smblease_manager_list_opens(&manager), SMBLEASE_NONE);
+    IS(smblease_manager_list_leases(&manager), SMBLEASE_NONE);
+    IS(smblease_manager_list_requests(&manager), SMBLEASE_NONE);
 }
 
 static void questions_of_nothing(void) {
@@ -82,6 +84,8 @@ static void questions_of_nothing(void) {
     struct smblease_manager_decision decision = {.client = 9};
     struct smblease_held_lease lease = {.state = 9};
     struct smblease_listed_open listed = {.file_id = 9};
+    struct smblease_listed_lease listed_lease = {.client = 9};
+    struct smblease_listed_request listed_request = {.client = 9};
     uint64_t file_id = 9;
     IS(smblease_manager_decision_count(&manager), 0);
     IS(smblease_manager_decision_at(&manager, 0, &decision), SMBLEASE_NONE);
@@ -102,6 +106,10 @@ static void questions_of_nothing(void) {
     IS(lease.state, 9);
     IS(smblease_manager_listed_at(&manager, 0, &listed), SMBLEASE_NONE);
     IS(listed.file_id, 9);
+    IS(smblease_manager_listed_lease_at(&manager, 0, &listed_lease), SMBLEASE_NONE);
+    IS(listed_lease.client, 9);
+    IS(smblease_manager_listed_request_at(&manager, 0, &listed_request), SMBLEASE_NONE);
+    IS(listed_request.client, 9);
     smblease_manager_free(&manager);
     IS(manager.state != NULL, 0);
 }
@@ -353,6 +361,70 @@ static void left(void) {
     IS(smblease_manager_has_open(&manager, 8), 1);
 }
 
+/* A lease with two opens that is breaking, and one that isn't; a create that waits for it with all that a create has, one that
+   has nothing, and a write that waits behind. Each list is there until the next call. */
+static void leases_and_requests_listed(void) {
+    struct smblease_create_ask ask = {.key = KEY, .state = 7, .has_lease = 1}, other = {.key = OTHER_KEY, .state = 1, .has_lease = 1};
+    struct smblease_create_ask waiting = {.key = OTHER_KEY, .state = 5, .has_lease = 1, .durable = 1, .has_reconnect = 1, .file_id = TAG};
+    struct smblease_create_ask nothing = {0};
+    struct smblease_listed_lease leases[2];
+    struct smblease_listed_request requests[2];
+    const struct smblease_listed_lease wanted[2] = {
+        {.client = CLIENT, .file = FILE_NO, .opens = 2, .key = KEY, .state = 7, .broken_to = 3, .breaking = 1},
+        {.client = OTHER, .file = 1, .opens = 1, .key = OTHER_KEY, .state = 1}};
+    const struct smblease_listed_request wanted_requests[2] = {
+        {.file = FILE_NO, .client = OTHER, .tag = TAG, .kind = SMBLEASE_WAITING_CREATE, .access = 1, .share = 3},
+        {.file = FILE_NO, .client = OTHER, .tag = LATER_TAG, .file_id = TAG, .key = OTHER_KEY, .state = 5,
+         .kind = SMBLEASE_WAITING_CREATE, .access = 2, .share = 3, .has_lease = 1, .durable = 1, .has_reconnect = 1}};
+    DONE(smblease_manager_new(&manager, SMBLEASE_BY_CLIENT, SMBLEASE_AS_FREE, UINT64_MAX));
+    DONE(smblease_manager_join(&manager, CLIENT));
+    DONE(smblease_manager_join(&manager, OTHER));
+    DONE(smblease_manager_create(&manager, OTHER, TAG, 1, 1, 3, &other));
+    DONE(smblease_manager_create(&manager, CLIENT, TAG, FILE_NO, 3, 3, &ask));
+    DONE(smblease_manager_create(&manager, CLIENT, TAG, FILE_NO, 3, 3, &ask));
+    DONE(smblease_manager_create(&manager, OTHER, TAG, FILE_NO, 1, 3, &nothing));
+    DONE(smblease_manager_create(&manager, OTHER, LATER_TAG, FILE_NO, 2, 3, &waiting));
+    DONE(smblease_manager_list_requests(&manager));
+    DONE(smblease_manager_list_leases(&manager));
+    DECIDES({.client = OTHER, .tag = LATER_TAG, .kind = SMBLEASE_DECISION_WAITS});
+    memset(leases, 0xa5, sizeof leases);
+    memset(requests, 0xa5, sizeof requests);
+    for (size_t index = 0; index < 2; index++) {
+        DONE(smblease_manager_listed_lease_at(&manager, index, &leases[index]));
+        DONE(smblease_manager_listed_request_at(&manager, index, &requests[index]));
+    }
+    IS(memcmp(leases, wanted, sizeof leases) != 0, 0);
+    IS(memcmp(requests, wanted_requests, sizeof requests) != 0, 0);
+    IS(smblease_manager_listed_lease_at(&manager, 2, leases), SMBLEASE_NO_SUCH);
+    IS(smblease_manager_listed_request_at(&manager, 2, requests), SMBLEASE_NO_SUCH);
+    DONE(smblease_manager_join(&manager, OTHER));
+    IS(smblease_manager_listed_lease_at(&manager, 0, leases), SMBLEASE_NO_SUCH);
+    IS(smblease_manager_listed_request_at(&manager, 0, requests), SMBLEASE_NO_SUCH);
+}
+
+/* Reads, writes and closes that wait behind a create of their client. */
+static void requests_by_opens_listed(void) {
+    struct smblease_create_ask ask = {.key = KEY, .state = 7, .has_lease = 1}, other = {0};
+    struct smblease_listed_request had, wanted = {.file = 5, .client = OTHER, .tag = 3, .file_id = 2};
+    DONE(smblease_manager_new(&manager, SMBLEASE_BY_CLIENT, SMBLEASE_AS_FREE, 5));
+    DONE(smblease_manager_join(&manager, CLIENT));
+    DONE(smblease_manager_join(&manager, OTHER));
+    DONE(smblease_manager_create(&manager, CLIENT, 1, 5, 3, 3, &ask));
+    DONE(smblease_manager_create(&manager, OTHER, 1, 5, 3, 3, &other));
+    DONE(smblease_manager_acknowledge(&manager, CLIENT, &(struct smblease_acknowledgment){.key = KEY, .state = 3}));
+    DONE(smblease_manager_create(&manager, OTHER, 2, 5, 3, 0, &other));
+    DONE(smblease_manager_read(&manager, OTHER, 3, 2));
+    DONE(smblease_manager_write(&manager, OTHER, 3, 2, 1));
+    DONE(smblease_manager_close(&manager, OTHER, 3, 2));
+    DONE(smblease_manager_list_requests(&manager));
+    for (uint32_t kind = SMBLEASE_WAITING_READ; kind <= SMBLEASE_WAITING_CLOSE; kind++) {
+        wanted.kind = kind;
+        memset(&had, 0xa5, sizeof had);
+        DONE(smblease_manager_listed_request_at(&manager, kind - 1, &had));
+        IS(memcmp(&had, &wanted, sizeof had) != 0, 0);
+    }
+}
+
 int main(void) {
     calls_of_nothing();
     questions_of_nothing();
@@ -369,6 +441,8 @@ int main(void) {
     ran_out();
     gave_up();
     left();
+    leases_and_requests_listed();
+    requests_by_opens_listed();
     smblease_manager_free(&manager);
     IS(manager.state != NULL, 0);
     return wrong;

@@ -197,6 +197,8 @@ class Drawer:
                 lambda: self._of_owner("may_read"),
                 lambda: self._of_owner("may_write"),
                 lambda: Call("opens", ()),
+                lambda: Call("leases", ()),
+                lambda: Call("requests", ()),
                 lambda: Call("open_count", ()))
 
     def _questions_of_leases(self) -> tuple[Draw, ...]:

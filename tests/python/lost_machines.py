@@ -10,11 +10,12 @@ from contextlib import contextmanager
 
 import pytest
 
-from smblease import (Access, Client, CreateAsk, Created, CreateRequest, LeaseState, MachineLost, Manager, ReadRequest, Server,
-                      Share, Wrote)
+from smblease import (Access, Client, CreateAsk, Created, CreateRequest, LeaseState, MachineLost, Manager, ReadRequest, Rules,
+                      Server, Share, Wrote)
 
 GUID = uuid.UUID(int=1)
 RWH = LeaseState.of("RWH")
+RULES = Rules.of("by-key,whole")
 
 
 @contextmanager
@@ -100,13 +101,13 @@ def server_reads() -> None:
 
 def manager_is_made() -> None:
     with refusing():
-        raises_exactly(MemoryError, Manager)
-    with Manager() as another:
+        raises_exactly(MemoryError, lambda: Manager(RULES))
+    with Manager(RULES) as another:
         assert not another.opens()
 
 
 def manager_opens() -> None:
-    manager = Manager()
+    manager = Manager(RULES)
     manager.join(1)
     with refusing():
         assert not manager.create(2, 20, 5, Access.READ, Share.READ)
@@ -114,11 +115,14 @@ def manager_opens() -> None:
 
 
 def opens_are_listed() -> None:
-    manager = Manager()
-    manager.join(1)
+    manager = Manager(RULES)
+    for client in (1, 2):
+        manager.join(client)
     manager.create(1, 10, 5, Access.READ, Share.READ, CreateAsk(GUID, RWH))
+    manager.create(2, 20, 5, Access.READ, Share.READ)
     with refusing():
-        raises_exactly(MemoryError, manager.opens)
+        for listing in (manager.opens, manager.leases, manager.requests):
+            raises_exactly(MemoryError, listing)
         assert manager.open_count() == 1 and manager.lease(1, GUID).state == RWH
     assert [it.file_id for it in manager.opens()] == [1]
 

@@ -2,16 +2,19 @@
 from __future__ import annotations
 
 import uuid
+from dataclasses import replace
 from typing import Callable, Iterable, Optional, Union
 
-from smblease import CreateAsk, Extent, HeldLease, LeaseState, ListedOpen, Rules, Status
+from smblease import (CreateAsk, Extent, HeldLease, LeaseState, ListedLease, ListedOpen, ListedRequest, Rules, Status,
+                      WaitingKind)
 from smblease.manager_decisions import Decision, Ended
 from smblease.values import Order, Rise
-from tests.python.plain_rules import (ALL, NONE, STATES, Create, H, Held, Key, Lease, Open, Read, Request, W, Want, Write,
+from tests.python.plain_rules import (ALL, NONE, STATES, Close, Create, H, Held, Key, Lease, Open, Read, Request, W, Want, Write,
                                       granted_form, in_break_order, is_shared, is_within, reads, writes)
 
 LAST = (1 << 64) - 1
 Decided = list[Decision]
+KINDS = {Read: WaitingKind.READ, Write: WaitingKind.WRITE, Close: WaitingKind.CLOSE}
 
 
 class PlainTables:
@@ -247,3 +250,20 @@ class PlainQuestions(PlainTables):
     def opens(self) -> tuple[ListedOpen, ...]:
         return tuple(ListedOpen(it.file_id, it.client, it.file, it.lease_key, it.access, it.share, it.durable, it.connected)
                      for it in self._opens.values())
+
+    def leases(self) -> tuple[ListedLease, ...]:
+        listed = []
+        for key in sorted(self._leases, key=in_break_order):
+            opens, held = [it for it in self._opens.values() if it.key == key], self.lease(*key)
+            listed.append(ListedLease(*key, opens[0].file, held.state, held.broken_to, len(opens)))
+        return tuple(listed)
+
+    def requests(self) -> tuple[ListedRequest, ...]:
+        return tuple(_listed(file, it.request) for file in sorted(self._queues) for it in self._queues[file])
+
+
+def _listed(file: int, one: Request) -> ListedRequest:
+    if isinstance(one, Create):
+        ask = one.ask if one.ask.key else replace(one.ask, state=LeaseState.NONE)
+        return ListedRequest(file, one.client, one.tag, WaitingKind.CREATE, access=one.access, share=one.share, ask=ask)
+    return ListedRequest(file, one.client, one.tag, KINDS[type(one)], file_id=one.file_id)

@@ -8,8 +8,8 @@ from pathlib import Path
 
 import pytest
 
-from smblease import (Access, Acknowledgment, CreateAnswer, CreateAsk, Extent, HeldLease, LeaseState, ListedOpen, Manager,
-                      Notification, Response, Rules, Share, Status)
+from smblease import (Access, Acknowledgment, CreateAnswer, CreateAsk, Extent, HeldLease, LeaseState, ListedLease, ListedOpen,
+                      ListedRequest, Manager, Notification, Response, Rules, Share, Status, WaitingKind)
 from smblease.manager_decisions import (Acknowledged, Breaks, Closed, Decisions, Ended, GoesOn, LeftBehind, NotAcknowledged,
                                         Opened, Refused, Waits, Withdrawn)
 from tests.paths import TESTS, TOP, files_of
@@ -28,7 +28,7 @@ def opened(client: int, tag: int, key: uuid.UUID, state: LeaseState, manager: Ma
 
 @pytest.fixture(name="manager")
 def joined_manager() -> Manager:
-    manager = Manager()
+    manager = Manager(Rules())
     for client in (ONE, TWO):
         manager.join(client)
     return manager
@@ -92,6 +92,20 @@ def test_opens_stay(manager: Manager) -> None:
     assert again == (Opened(ONE, 11, 1, CreateAnswer(KEY, RWH)),)
     manager.cut(ONE)
     assert manager.scavenge(1) == (Ended(1),)
+
+
+def test_leases_and_requests_are_listed(manager: Manager) -> None:
+    opened(ONE, 10, KEY, RWH, manager)
+    opened(ONE, 11, KEY, R, manager)
+    manager.create(TWO, 20, 5, Access.READ, Share.READ_WRITE, CreateAsk(KEY, RWH))
+    assert manager.requests() == ()
+    ask = CreateAsk(OTHER_KEY, RH, durable=True, reconnect=9)
+    manager.create(ONE, 12, 5, Access.READ, Share.READ)
+    manager.create(ONE, 13, 5, Access.WRITE, Share.READ_WRITE, ask)
+    assert manager.leases() == (ListedLease(TWO, KEY, 5, RWH, RH, 1), ListedLease(ONE, KEY, FILE, RWH, None, 2))
+    assert manager.requests() == (
+        ListedRequest(5, ONE, 12, WaitingKind.CREATE, access=Access.READ, share=Share.READ, ask=CreateAsk()),
+        ListedRequest(5, ONE, 13, WaitingKind.CREATE, access=Access.WRITE, share=Share.READ_WRITE, ask=ask))
 
 
 def test_a_client_leaves_a_part(manager: Manager) -> None:
@@ -170,7 +184,7 @@ def test_rules_and_files() -> None:
 
 def test_threads_share_a_manager() -> None:
     """Each call gives its own decisions, whichever thread it comes from."""
-    manager = Manager()
+    manager = Manager(Rules())
     found: list[tuple[int, Decisions]] = []
 
     def use(client: int) -> None:

@@ -16,7 +16,7 @@ from smblease import (Access, AcknowledgeDone, AcknowledgeFailed, AcknowledgeReq
 GUID = uuid.UUID(int=1)
 RW, RH = LeaseState.of("RW"), LeaseState.of("RH")
 LONG = 1 << 64
-CLIENT, SERVER, MANAGER = Client(GUID, 1), Server([b"abc"]), Manager()
+CLIENT, SERVER, MANAGER = Client(GUID, 1), Server([b"abc"]), Manager(Rules())
 # (mypy would refuse arguments of other types)
 client: Any = CLIENT
 server: Any = SERVER
@@ -59,7 +59,7 @@ HALF = bytes((0, 0, 0, 0, 24, 0, 4)) + bytes(17) + b"DHnQ" + bytes(4)
     refused("a state as a text", lambda: client.open(1, Access.READ, Share.READ, "RH"), word="LeaseState.of('RH')"),
     refused("a file that is to be closed", lambda: client.close(1), TypeError, "close_file(1) closes a file"),
     refused("a FileId of 65 bits", lambda: client.take(Closed(LONG)), word="file_id"),
-    refused("a write's number of 65 bits", lambda: client.take(WriteDone(1, LONG)), word="write"),
+    refused("a write's number of 65 bits", lambda: client.take(WriteDone(1, LONG)), word="number"),
     refused("a status of 33 bits", lambda: client.take(AcknowledgeFailed(1 << 32)), word="status"),
     refused("a notification of 43 bytes", lambda: client.take(Break(bytes(43))), word="44 bytes, and not 43"),
     refused("a notification of 45 bytes", lambda: client.take(Break(bytes(45))), word="44 bytes, and not 45"),
@@ -86,7 +86,7 @@ HALF = bytes((0, 0, 0, 0, 24, 0, 4)) + bytes(17) + b"DHnQ" + bytes(4)
     refused("the content of file 2", lambda: server.content(2)),
     refused("the content of file 256", lambda: server.content(256), word="file"),
     refused("rules of a manager as a text", lambda: any_manager("by-key,whole"), TypeError, "Rules.of('by-key,whole')"),
-    refused("2^64 files of a manager", lambda: any_manager(files=LONG), word="files"),
+    refused("2^64 files of a manager", lambda: any_manager(Rules(), files=LONG), word="files"),
     refused("client 2^64 of a manager", lambda: manager.join(LONG), word="client"),
     refused("tag -1", lambda: manager.read(1, -1, 1), word="tag"),
     refused("a closed FileId of 65 bits", lambda: manager.close_open(1, 10, LONG), word="file_id"),
@@ -138,7 +138,7 @@ MANAGER_CALLS: dict[str, tuple[Any, ...]] = {
     "create": (1, 10, 1, Access.READ, Share.READ), "read": (1, 10, 1), "write": (1, 10, 1), "close_open": (1, 10, 1),
     "acknowledge": (1, Acknowledgment(GUID, RH)), "acknowledge_malformed": (1,), "withdraw": (1, 10, 1), "connected": (1,),
     "breaking": (1, GUID), "waiting": (1, 10, 1), "left_behind": (1,), "has_open": (1,), "open_count": (),
-    "allowed": (1, None, 1, RW), "kept": (1, 1), "lease": (1, GUID), "opens": (), "leave": (1, [1], [10]),
+    "allowed": (1, None, 1, RW), "kept": (1, 1), "lease": (1, GUID), "opens": (), "leases": (), "requests": (), "leave": (1, [1], [10]),
     "give_up": (1, None, 1, Extent.ALL), "given_up": (1, None, 1, Extent.ALL), "may_read": (1, 1), "may_write": (1, 1),
     "__enter__": (),
 }
@@ -148,7 +148,7 @@ FREE = {"close", "closed", "key"}
 
 def closed(kind: str) -> Any:
     made: dict[str, Callable[[], Any]] = {"client": lambda: Client(GUID, 1), "server": lambda: Server([b"abc"]),
-                                          "manager": Manager}
+                                          "manager": lambda: Manager(Rules())}
     machine = made[kind]()
     with machine:
         pass
