@@ -10,6 +10,7 @@ pub mod Findings
 pub mod GivingUp
 pub mod Hindering
 pub mod Kept
+pub mod Ids
 pub mod KeyOrder
 pub mod Lanes
 pub mod Laws
@@ -19,6 +20,7 @@ pub mod Listing
 pub mod Listings
 pub mod Looks
 pub mod OneFile
+pub mod OpenIndex
 pub mod Outs
 pub mod Parting
 pub mod Passing

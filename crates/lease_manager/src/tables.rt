@@ -25,10 +25,11 @@ use std::marker::Model;
 
 mod changes;
 pub mod file_summary;
+pub mod ids;
 pub mod lease_marks;
-pub mod left_opens;
 mod listings;
 mod looks;
+pub mod open_index;
 pub mod opens;
 pub mod parting;
 pub mod queue;

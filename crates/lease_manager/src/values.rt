@@ -10,5 +10,6 @@ pub mod listed;
 pub mod number;
 pub mod open;
 pub mod out;
+pub mod owner;
 pub mod request;
 pub mod want;

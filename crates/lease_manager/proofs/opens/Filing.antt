@@ -7,7 +7,7 @@ use Rattle.std.specs.List.{AllByRecursion}
 use Rattle.std.specs.List.Sorted.{IsStrictlySortedBy}
 use Rattle.std.specs.Map.{lookup, remove_entry, set_value, keys_of}
 use Rattle.std.specs.declared.cmp.Ordering.TheVariants.{Greater}
-use Rattle.lease_laws.proofs.server.Lists.{either}
+use Rattle.lease_laws.proofs.server.Lists.{either, find_has}
 use Rattle.lease_manager.specs.Filed.{has_id, file_id_order, AreFiled}
 use Rattle.lease_manager.specs.Summaries.{IsOneMore}
 
@@ -195,3 +195,20 @@ pub values_written : (n : ℕ) (change : Open → Open) (old new : List (FileId 
     → values_of new ≡ map (λ o. if has_id n o then change o else o) (values_of old)
 values_written n change old new one written filed order found is now =
     ap values_of (set_so n change old new one written is now) ∙ values_set n change old one filed order found
+
+-- what holds at an open's own FileId holds at that by which it was found
+pub by_its_id : (P : ℕ → Type 0) (n : ℕ) (opens : List Open) (one : Open) → find (has_id n) opens ≡ Some one
+    → (find (has_id one.file_id) opens ≡ Some one → P one.file_id) → P n
+by_its_id P n opens one found holds =
+    let same : one.file_id ≡ n = (Decides-eqb one.file_id n).0 (find_has (has_id n) one opens found).1 in
+    subst P same (holds (subst (λ m. find (has_id m) opens ≡ Some one) (sym same) found))
+
+-- the map with one open more, the last
+pub filed_more : (n : ℕ) (one : Open) (old new : List (FileId × Open)) → one.file_id ≡ n → AreFiled old
+    → ((other : Open) → Among other (values_of old) → other.file_id < one.file_id)
+    → new ≡ insert_entry file_id_order old (record { 0 = n }) one → IsStrictlySortedBy file_id_order (keys_of new)
+    → AreFiled new × AreInOrder (values_of new) × (values_of new ≡ values_of old ++ one ∷ [])
+filed_more n one old new is filed last put sorted =
+    let at_end = put ∙ inserted_last n one old filed (λ other a. subst (λ m. other.file_id < m) is (last other a)) in
+    let now : AreFiled new = rw at_end (filed_last n one old filed is) in
+    (now, in_order new now sorted, ap values_of at_end ∙ values_last n one old)

@@ -1,4 +1,4 @@
--- The opens that wait for their clients, as opens come, go, are left and are connected again.
+-- FileIds of opens, rising, and what is asked of the opens that wait for their clients.
 use Rattle.lease_laws.proofs.Words.{◌&&◌, ◌++◌, ◌<◌, ◌==◌, ◌∙◌, ◌∷◌, ◌≡◌, Among, AreInOrder, Bool, Decides-eqb, FileId, Key, Less}
 use Rattle.lease_laws.proofs.Words.{List, None, Open, Option, Some, ℕ, [], ap, ap₂, arith, drop, false, filter, find}
 use Rattle.lease_laws.proofs.Words.{get_or, has_key, if◌then◌else◌, inl, inr, is_key, is_left_open, length, list_any, map}
@@ -11,34 +11,8 @@ use Rattle.std.specs.declared.cmp.Ordering.TheVariants.{Equal, Greater}
 use Rattle.lease_laws.proofs.server.Lists.{either, among_filter, find_has, none_has, not_true}
 use Rattle.lease_manager.proofs.opens.Filing.{test_at, at_id, none_behind, some_same, none_changed, greater}
 use Rattle.lease_manager.specs.Filed.{has_id, connected_at, file_id_order}
-use Rattle.lease_manager.specs.LeftOpens.{AreWaiting, found_has, has_key_in, ids_of, is_owner, left_at, numbers}
+use Rattle.lease_manager.specs.LeftOpens.{found_has, has_key_in, ids_of, numbers}
 use Rattle.lease_manager.specs.Looks.{is_elsewhere, is_left_by}
-use Rattle.lease_manager.specs.declared.tables.left_opens.LeftOpens.{LeftOpens}
-use Rattle.lease_manager.specs.declared.tables.left_opens.Owner.{Owner}
-
-abbrev waits : Owner → Open → Bool
-waits owner = is_left_by owner.client.0 owner.file.0
-
--- the open is the client's, on the file
-abbrev pub is_its : Owner → Open → Bool
-is_its owner one = one.client == owner.client.0 && one.file == owner.file.0
-
-present : (owner : Owner) (one : Open) → one.connected ≡ true → waits owner one ≡ false
-present owner one here = grind (arith, nat_tests, here)
-
-another : (owner : Owner) (one : Open) → is_its owner one ≡ false → waits owner one ≡ false
-another owner one apart = grind (arith, nat_tests, apart)
-
-left_now : (owner : Owner) (one : Open) → is_its owner one ≡ true → waits owner (record one { connected = false }) ≡ true
-left_now owner one its = grind (arith, nat_tests, its)
-
-pub apart_from : (other owner : Owner) (one : Open) → owner.client.0 ≡ one.client → owner.file.0 ≡ one.file
-    → is_owner other owner ≡ false → is_its other one ≡ false
-apart_from other owner one client file apart = grind (arith, nat_tests, client, file, apart)
-
-pub its_own : (other owner : Owner) (one : Open) → owner.client.0 ≡ one.client → owner.file.0 ≡ one.file
-    → is_owner other owner ≡ true → is_its other one ≡ true
-its_own other owner one client file same = grind (arith, nat_tests, client, file, same)
 
 -- ---- lists of numbers
 
@@ -50,7 +24,7 @@ behind_head : (x : FileId) (xs : List FileId) (one : Open) (opens : List Open)
     → numbers (x ∷ xs) ≡ ids_of (one ∷ opens) → numbers xs ≡ ids_of opens
 behind_head x xs one opens same = ap (λ l. drop 1 l) same
 
-removed_id : (n : ℕ) (ids : List FileId) (opens : List Open) → numbers ids ≡ ids_of opens → AreInOrder opens
+pub removed_id : (n : ℕ) (ids : List FileId) (opens : List Open) → numbers ids ≡ ids_of opens → AreInOrder opens
     → numbers (remove_key (test_at n) ids) ≡ ids_of (without (has_id n) opens)
 removed_id n [] [] same order = refl
 removed_id n [] (one ∷ opens) same order = absurd (cc same)
@@ -85,140 +59,6 @@ pub inserted_first : (n : ℕ) (opens : List Open) → ((other : Open) → Among
     → insert_key nat_cmp (ids_of opens) n ≡ n ∷ ids_of opens
 inserted_first n [] above = refl
 inserted_first n (one ∷ opens) above = rw (less_is n one.file_id (above one (inl refl))) refl
-
--- ---- a new open waits for nobody
-
-pub none_more : (owner : Owner) (opens : List Open) (one : Open) → one.connected ≡ true
-    → filter (waits owner) (opens ++ one ∷ []) ≡ filter (waits owner) opens
-none_more owner [] one here = rw (present owner one here) refl
-none_more owner (x ∷ opens) one here = let later = none_more owner opens one here in grind arith
-
--- ---- an open goes
-
-waiting_without : (n : ℕ) (owner : Owner) (opens : List Open)
-    → filter (waits owner) (without (has_id n) opens) ≡ without (has_id n) (filter (waits owner) opens)
-waiting_without n owner [] = refl
-waiting_without n owner (x ∷ opens) = let later = waiting_without n owner opens in grind arith
-
-none_waits : (n : ℕ) (owner : Owner) (opens : List Open) (one : Open) → AreInOrder opens
-    → find (has_id n) opens ≡ Some one → waits owner one ≡ false
-    → without (has_id n) (filter (waits owner) opens) ≡ filter (waits owner) opens
-none_waits n owner [] one order found away = refl
-none_waits n owner (x ∷ opens) one order found away = either (has_id n x)
-    (λ its.
-    let is : x ≡ one = some_same (rw its at found) in
-    let here : waits owner x ≡ false = ap (waits owner) is ∙ away in
-    let same = (Decides-eqb x.file_id n).0 its in
-    rw here (none_behind n (filter (waits owner) opens)
-    (λ other a. subst (λ m. m < other.file_id) same (order.0 other (among_filter (waits owner) other opens a).0))))
-    (λ its.
-    let later = none_waits n owner opens one order.1 (rw its at found) away in
-    either (waits owner x) (λ w. rw (w, its) (ap (λ l. x ∷ l) later)) (λ w. rw w later))
-
--- the lists without the FileId are those of the opens without the open
-still_waiting : (old new : LeftOpens) (n : ℕ) (owner : Owner) (opens : List Open) (one : Open) → AreInOrder opens
-    → find (has_id n) opens ≡ Some one → owner.client.0 ≡ one.client → owner.file.0 ≡ one.file → AreWaiting old opens
-    → ((other : Owner) → left_at new other
-    ≡ (if is_owner other owner then remove_key (test_at n) (left_at old other) else left_at old other))
-    → (other : Owner) → numbers (left_at new other) ≡ ids_of (without (has_id n) (filter (waits other) opens))
-still_waiting old new n owner opens one order found client file waiting changed other = either (is_owner other owner)
-    (λ its. rw (changed other, its) (removed_id n (left_at old other) (filter (waits other) opens) (waiting other)
-    (in_order_filter (waits other) opens order)))
-    (λ its.
-    let apart = another other one (apart_from other owner one client file its) in
-    rw (changed other, its) (waiting other ∙ ap ids_of (sym (none_waits n other opens one order found apart))))
-  where
-    in_order_filter : (test : Open → Bool) (opens : List Open) → AreInOrder opens → AreInOrder (filter test opens)
-    in_order_filter test [] order = tt
-    in_order_filter test (x ∷ opens) order = either (test x)
-        (λ t. rw t (
-          λ other a. order.0 other (among_filter test other opens a).0,
-          in_order_filter test opens order.1,
-        ))
-        (λ t. rw t (in_order_filter test opens order.1))
-
-pub waiting_taken : (old new : LeftOpens) (n : ℕ) (owner : Owner) (opens : List Open) (one : Open) → AreInOrder opens
-    → find (has_id n) opens ≡ Some one → owner.client.0 ≡ one.client → owner.file.0 ≡ one.file → AreWaiting old opens
-    → ((other : Owner) → left_at new other
-    ≡ (if is_owner other owner then remove_key (test_at n) (left_at old other) else left_at old other))
-    → AreWaiting new (without (has_id n) opens)
-waiting_taken old new n owner opens one order found client file waiting changed = λ other.
-    still_waiting old new n owner opens one order found client file waiting changed other
-    ∙ ap ids_of (sym (waiting_without n other opens))
-
--- ---- an open is connected again
-
-connected_now : (n : ℕ) (owner : Owner) (opens : List Open)
-    → filter (waits owner) (map (connected_at n true) opens) ≡ without (has_id n) (filter (waits owner) opens)
-connected_now n owner [] = refl
-connected_now n owner (x ∷ opens) = let later = connected_now n owner opens in grind arith
-
-pub waiting_again : (old new : LeftOpens) (n : ℕ) (owner : Owner) (opens : List Open) (one : Open) → AreInOrder opens
-    → find (has_id n) opens ≡ Some one → owner.client.0 ≡ one.client → owner.file.0 ≡ one.file → AreWaiting old opens
-    → ((other : Owner) → left_at new other
-    ≡ (if is_owner other owner then remove_key (test_at n) (left_at old other) else left_at old other))
-    → AreWaiting new (map (connected_at n true) opens)
-waiting_again old new n owner opens one order found client file waiting changed = λ other.
-    still_waiting old new n owner opens one order found client file waiting changed other
-    ∙ ap ids_of (sym (connected_now n other opens))
-
--- ---- an open is left
-
-rest_unchanged : (n : ℕ) (connected : Bool) (one : Open) (opens : List Open) → one.file_id ≡ n
-    → ((other : Open) → Among other opens → one.file_id < other.file_id) → map (connected_at n connected) opens ≡ opens
-rest_unchanged n connected one opens is above = none_changed n (λ (o : Open). record o { connected = connected }) opens
-    (λ other a. subst (λ m. m < other.file_id) is (above other a))
-
-one_more : (n : ℕ) (owner : Owner) (opens : List Open) (one : Open) → AreInOrder opens
-    → find (has_id n) opens ≡ Some one → is_its owner one ≡ true → insert_key nat_cmp (ids_of (filter (waits owner) opens)) n
-    ≡ ids_of (filter (waits owner) (map (connected_at n false) opens))
-one_more n owner [] one order found its = absurd (cc found)
-one_more n owner (x ∷ opens) one order found its = either (has_id n x)
-    (λ at.
-    let is : x ≡ one = some_same (rw at at found) in
-    let same = (Decides-eqb x.file_id n).0 at in
-    let rest = rest_unchanged n false x opens same order.0 in
-    let now : waits owner (record x { connected = false }) ≡ true = left_now owner x (ap (is_its owner) is ∙ its) in
-    either (waits owner x)
-    (λ w. rw (w, at, rest, now, same, equal_is n) refl)
-    (λ w. rw (w, at, rest, now) (inserted_first n (filter (waits owner) opens)
-    (λ other a. subst (λ m. m < other.file_id) same (order.0 other (among_filter (waits owner) other opens a).0))
-    ∙ ap (λ m. m ∷ ids_of (filter (waits owner) opens)) (sym same))))
-    (λ at.
-    let behind = find_has (has_id n) one opens (rw at at found) in
-    let later = one_more n owner opens one order.1 (rw at at found) its in
-    let above = subst (λ m. x.file_id < m) ((Decides-eqb one.file_id n).0 behind.1) (order.0 one behind.0) in
-    either (waits owner x)
-    (λ w. rw (w, at, w, greater n x.file_id above) (ap (λ l. x.file_id ∷ l) later))
-    (λ w. rw (w, at, w) later))
-
-none_left : (n : ℕ) (owner : Owner) (opens : List Open) (one : Open) → AreInOrder opens
-    → find (has_id n) opens ≡ Some one → is_its owner one ≡ false
-    → filter (waits owner) (map (connected_at n false) opens) ≡ filter (waits owner) opens
-none_left n owner [] one order found apart = refl
-none_left n owner (x ∷ opens) one order found apart = either (has_id n x)
-    (λ at.
-    let is : x ≡ one = some_same (rw at at found) in
-    let same = (Decides-eqb x.file_id n).0 at in
-    let rest = rest_unchanged n false x opens same order.0 in
-    let not_its : is_its owner x ≡ false = ap (is_its owner) is ∙ apart in
-    let before = another owner x not_its in
-    let now = another owner (record x { connected = false }) not_its in
-    rw (at, rest, now, before) refl)
-    (λ at.
-    let later = none_left n owner opens one order.1 (rw at at found) apart in
-    either (waits owner x) (λ w. rw (at, w) (ap (λ l. x ∷ l) later)) (λ w. rw (at, w) later))
-
-pub waiting_left : (old new : LeftOpens) (fid : FileId) (owner : Owner) (opens : List Open) (one : Open) → AreInOrder opens
-    → find (has_id fid.0) opens ≡ Some one → owner.client.0 ≡ one.client → owner.file.0 ≡ one.file → AreWaiting old opens
-    → ((other : Owner) → left_at new other
-    ≡ (if is_owner other owner then insert_key file_id_order (left_at old other) fid else left_at old other))
-    → AreWaiting new (map (connected_at fid.0 false) opens)
-waiting_left old new fid owner opens one order found client file waiting changed = λ other. either (is_owner other owner)
-    (λ its. rw (changed other, its) (inserted_id fid (left_at old other) ∙ (ap (λ l. insert_key nat_cmp l fid.0) (waiting other)
-    ∙ one_more fid.0 other opens one order found (its_own other owner one client file its))))
-    (λ its. rw (changed other, its) (waiting other
-    ∙ ap ids_of (sym (none_left fid.0 other opens one order found (apart_from other owner one client file its)))))
 
 -- ---- what is asked
 

@@ -224,7 +224,7 @@ pub fn reconnect(
     ensures queues { OnOk result (tables.new.queues ≡ tables.old.queues) }
 {
     let lease = standing_lease(tables, client, asked);
-    tables.connect_again(file_id);
+    tables.connect_again(file_id)?;
     let answer = CreateAnswer {
         lease: lease_given(asked, lease),
         durable: false,

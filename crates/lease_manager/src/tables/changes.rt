@@ -197,14 +197,20 @@ impl Tables {
     }
 
     /// The open of this FileId is connected again.
-    pub fn connect_again(&mut self, fid: FileId)
-        ensures changed { server_of self.new ≡ record (server_of self.old) {
+    ///
+    /// # Errors
+    ///
+    /// `Memory` where there is none left for it; nothing has changed then.
+    pub fn connect_again(&mut self, fid: FileId) -> Result<(), Memory>
+        ensures changed { OnOk result (server_of self.new ≡ record (server_of self.old) {
           opens = map (connected_again fid.0) (server_of self.old).opens;
-        } }
-        ensures queues { self.new.queues ≡ self.old.queues }
+        }) }
+        ensures queues { OnOk result (self.new.queues ≡ self.old.queues) }
     {
+        let alloc = self.alloc();
+        self.opens.connect_again(alloc, fid)?;
         self.waiting.clear();
-        self.opens.connect_again(fid);
+        Ok(())
     }
 }
 
@@ -271,7 +277,7 @@ fn add(
     let count = opens.len();
     prove!(count < usize::MAX);
     summaries.gain(alloc, &one, lease)?;
-    opens.push(one)?;
+    opens.push(alloc, one)?;
     Ok(())
 }
 

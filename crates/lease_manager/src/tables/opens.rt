@@ -1,4 +1,4 @@
-ghost use Rattle.std.specs.Prelude.{◌≡◌, ◌<◌, ◌^◌, ◌++◌, [], ◌∷◌, true, OnOk, IfOk, IfSome, length, map, filter, find};
+ghost use Rattle.std.specs.Prelude.{◌≡◌, ◌<◌, ◌^◌, ◌++◌, [], ◌∷◌, true, OnOk, OnErr, IfOk, IfSome, length, map, filter, find};
 ghost use Rattle.std.specs.Option.{option_map};
 ghost use Rattle.lease_laws.specs.server.Laws.{Among, AreInOrder};
 ghost use Rattle.lease_model.specs.server.State.{Open};
@@ -10,17 +10,19 @@ ghost use Rattle.lease_model.specs.server.State.{has_key};
 ghost use Rattle.lease_manager.specs.Filed.{AreFiled, connected_at, disconnected_at, has_id};
 ghost use Rattle.lease_manager.specs.Parting.{is_connected_named, is_connected_of, is_lasting, is_so, outlives_by};
 ghost use Rattle.lease_manager.specs.LeftOpens.{has_key_in, ids_of, numbers};
+ghost use Rattle.lease_manager.specs.OpenIndex.{IsIndexOf, IsLast};
 ghost use Rattle.lease_manager.specs.Listing.{open_of};
 ghost use Rattle.lease_manager.specs.Looks.{is_left_by};
 ghost use Rattle.lease_manager.specs.Summaries.{Agrees, IsOneMore, lease_in};
 ghost use Rattle.std.specs.Map.{values_of};
 
-use crate::tables::left_opens::{LeftOpens, Owner};
+use crate::tables::open_index::OpenIndex;
 use crate::tables::summaries::Summaries;
 use crate::values::closing::Closing;
 use crate::values::key::LeaseName;
 use crate::values::number::{ClientNo, FileNo};
 use crate::values::open::{ListedOpen, OpenEntry};
+use crate::values::owner::Owner;
 use lease_state::{FileId, Memory};
 use std::alloc::Global;
 use std::collections::{BTreeMap, BTreeSet};
@@ -30,8 +32,7 @@ use std::marker::Model;
 #[derive(Debug, Drop)]
 pub struct Opens {
     by_id: BTreeMap<FileId, OpenEntry>,
-    /// Those of them that wait for their clients.
-    left: LeftOpens,
+    index: OpenIndex,
 }
 
 impl Model for Opens {
@@ -40,14 +41,14 @@ impl Model for Opens {
     ghost use Rattle.lease_model.specs.server.State as model;
     ghost use Rattle.lease_laws.specs.server.Laws.{AreInOrder};
     ghost use Rattle.lease_manager.specs.Filed.{AreFiled};
-    ghost use Rattle.lease_manager.specs.LeftOpens.{AreWaiting};
+    ghost use Rattle.lease_manager.specs.OpenIndex.{IsIndexOf};
 
     ghost Value = { List model.Open };
 
     ghost view = { λ opens. values_of opens.by_id.entries };
 
     ghost invariant = { λ opens. AreFiled opens.by_id.entries × AreInOrder (values_of opens.by_id.entries)
-        × AreWaiting opens.left (values_of opens.by_id.entries) };
+        × IsIndexOf (values_of opens.by_id.entries) opens.index };
 }
 
 impl Opens {
@@ -57,7 +58,7 @@ impl Opens {
     {
         Opens {
             by_id: BTreeMap::new(alloc),
-            left: LeftOpens::new(alloc),
+            index: OpenIndex::new(alloc),
         }
     }
 
@@ -89,14 +90,19 @@ impl Opens {
     ///
     /// # Errors
     ///
-    /// `Memory` where there is none left.
-    pub fn push(&mut self, one: OpenEntry) -> Result<(), Memory>
+    /// `Memory` where there is none left; no open is left then.
+    pub fn push(&mut self, alloc: Global, one: OpenEntry) -> Result<(), Memory>
         requires here { one.connected ≡ true }
         requires last { (other : Open) → Among other self.old → other.file_id < one.file_id }
         ensures { OnOk result (self.new ≡ self.old ++ one ∷ []) }
     {
-        self.by_id.insert(one.file_id, one)?;
-        Ok(())
+        match file(&mut self.by_id, &mut self.index, alloc, one) {
+            Ok(()) => Ok(()),
+            Err(memory) => {
+                *self = Opens::new(alloc);
+                Err(memory)
+            }
+        }
     }
 
     /// The open of this FileId.
@@ -115,7 +121,7 @@ impl Opens {
     {
         match self.by_id.remove(&fid) {
             Some(one) => {
-                self.left.remove(one.owner(), fid);
+                self.index.lose(&one);
                 Some(one)
             }
             None => None,
@@ -142,7 +148,7 @@ impl Opens {
             Closing::Named(fid) => self.closed_at(alloc, *fid, closing),
             Closing::LeftBehind(fid) => self.closed_at(alloc, *fid, closing),
             Closing::LeftOf(key) => self.left_of(alloc, *key, leases),
-            Closing::Of(_) => self.closed_among(alloc, closing),
+            Closing::Of(key) => self.of_key(alloc, *key),
         }
     }
 
@@ -159,7 +165,7 @@ impl Opens {
         ensures in_order { AreInOrder self.now }
     {
         // The invariant, which says what is in the sets, is known of what is looked at.
-        let _ = &self.left;
+        let _ = &self.index;
         match leases.home(key) {
             Some(file) => {
                 let ids = self.left_on(alloc, key, file)?;
@@ -176,7 +182,7 @@ impl Opens {
         ensures in_order { AreInOrder self.now }
     {
         let client = key.client;
-        match self.left.at(Owner { client, file }) {
+        match self.index.left_by(Owner { client, file }) {
             Some(left) => {
                 let ids = self.with_key(alloc, key, left)?;
                 Ok(ids)
@@ -238,19 +244,13 @@ impl Opens {
         }
     }
 
-    // The same, by a look at all opens.
-    fn closed_among(&self, alloc: Global, closing: &Closing) -> Result<Vec<FileId>, Memory>
+    // The FileIds of the opens of the key.
+    fn of_key(&self, alloc: Global, key: LeaseName) -> Result<Vec<FileId>, Memory>
         ensures ids { IfOk result (λ ids. map (λ file_id. file_id.0) ids.items
-            ≡ map (λ one. one.file_id) (filter (closes closing.now) self.now)) }
+            ≡ map (λ one. one.file_id) (filter (has_key key) self.now)) }
         ensures in_order { AreInOrder self.now }
     {
-        let mut ids = Vec::new(alloc);
-        for one in self.by_id.values() {
-            if closing.closes(one) {
-                ids.push(one.file_id)?;
-            }
-        }
-        Ok(ids)
+        self.index.of_key(alloc, key)
     }
 
     /// The first of the client's opens on the file that wait for it.
@@ -258,7 +258,7 @@ impl Opens {
         ensures { option_map (λ file_id. file_id.0) result
             ≡ option_map (λ one. one.file_id) (find (is_left_by client.0 file.0) self.now) }
     {
-        match self.left.at(Owner { client, file }) {
+        match self.index.left_by(Owner { client, file }) {
             Some(left) => {
                 match left.first() {
                     Some(fid) => Some(*fid),
@@ -279,13 +279,7 @@ impl Opens {
             ≡ map (λ one. one.file_id) (filter (is_connected_of client.0) self.now)) }
         ensures in_order { AreInOrder self.now }
     {
-        let mut ids = Vec::new(alloc);
-        for one in self.by_id.values() {
-            if one.client == client && one.connected {
-                ids.push(one.file_id)?;
-            }
-        }
-        Ok(ids)
+        self.index.of_client(alloc, client)
     }
 
     /// Those of the FileIds by which the client has a connected open, each once, in their order.
@@ -365,14 +359,13 @@ impl Opens {
     ///
     /// # Errors
     ///
-    /// `Memory` where there is none left for the list of those that wait.
+    /// `Memory` where there is none left for it; nothing has changed then.
     pub fn disconnect(&mut self, alloc: Global, fid: FileId) -> Result<(), Memory>
         ensures { OnOk result (self.new ≡ map (disconnected_at fid.0) self.old) }
     {
         match self.by_id.get(&fid) {
             Some(one) => {
-                let owner = one.owner();
-                self.left.insert(alloc, owner, fid)?;
+                self.index.leave(alloc, one)?;
                 set_connected(&mut self.by_id, fid, false);
                 Ok(())
             }
@@ -381,18 +374,44 @@ impl Opens {
     }
 
     /// The open of this FileId is connected again.
-    pub fn connect_again(&mut self, fid: FileId)
-        ensures { self.new ≡ map (connected_again fid.0) self.old }
+    ///
+    /// # Errors
+    ///
+    /// `Memory` where there is none left for it; nothing has changed then.
+    pub fn connect_again(&mut self, alloc: Global, fid: FileId) -> Result<(), Memory>
+        ensures changed { OnOk result (self.new ≡ map (connected_again fid.0) self.old) }
+        ensures refused { OnErr result (self.new ≡ self.old) }
     {
         match self.by_id.get(&fid) {
             Some(one) => {
-                let owner = one.owner();
-                self.left.remove(owner, fid);
+                self.index.come_back(alloc, one)?;
                 set_connected(&mut self.by_id, fid, true);
+                Ok(())
             }
-            None => {}
+            None => Ok(()),
         }
     }
+}
+
+// Puts one more open into the map and the index, the last of all.
+fn file(
+    by_id: &mut BTreeMap<FileId, OpenEntry>,
+    index: &mut OpenIndex,
+    alloc: Global,
+    one: OpenEntry,
+) -> Result<(), Memory>
+    requires here { one.connected ≡ true }
+    requires filed { AreFiled by_id.old.entries }
+    requires last { IsLast one (values_of by_id.old.entries) }
+    requires indexed { IsIndexOf (values_of by_id.old.entries) index.old }
+    ensures still_filed { OnOk result (AreFiled by_id.new.entries) }
+    ensures in_order { OnOk result (AreInOrder (values_of by_id.new.entries)) }
+    ensures opens { OnOk result (values_of by_id.new.entries ≡ values_of by_id.old.entries ++ one ∷ []) }
+    ensures still_indexed { OnOk result (IsIndexOf (values_of by_id.new.entries) index.new) }
+{
+    index.gain(alloc, &one)?;
+    by_id.insert(one.file_id, one)?;
+    Ok(())
 }
 
 // Whether it lasts, or where that is asked, whether it doesn't.

@@ -7,10 +7,9 @@ ghost use Rattle.lease_model.specs.server.State.{Open};
 
 use crate::tables::Tables;
 use crate::tables::changes::{close_all, disconnect_all, forget_opens};
+use crate::tables::ids::listed;
 use crate::values::number::ClientNo;
 use lease_state::{FileId, Memory};
-use std::alloc::Global;
-use std::collections::BTreeSet;
 
 /// Opens of a client whose connection goes (MS-SMB2 3.3.7.1), by their FileIds, rising.
 #[derive(Debug, Drop)]
@@ -74,15 +73,4 @@ impl Tables {
             }
         }
     }
-}
-
-// The FileIds, in their order.
-fn listed(alloc: Global, names: &BTreeSet<FileId>) -> Result<Vec<FileId>, Memory>
-    ensures { IfOk result (λ ids. ids.items ≡ names.now.keys) }
-{
-    let mut ids = Vec::new(alloc);
-    for fid in names {
-        ids.push(*fid)?;
-    }
-    Ok(ids)
 }

@@ -9,10 +9,10 @@ ghost use Rattle.lease_manager.specs.Leases.{lease_of};
 ghost use Rattle.lease_manager.specs.Listing.{open_of};
 ghost use Rattle.lease_manager.specs.Looks.{is_connected_as};
 
-use crate::tables::left_opens::Owner;
 use crate::values::key::LeaseName;
 use crate::values::lease::HeldLease;
 use crate::values::number::{ClientNo, FileNo};
+use crate::values::owner::Owner;
 use lease_state::{Access, FileId, LeaseKey, Share};
 use std::marker::Model;
 

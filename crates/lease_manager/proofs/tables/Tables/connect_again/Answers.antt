@@ -5,10 +5,13 @@ use Rattle.lease_manager.proofs.sums.Mapping.{connection_kept}
 use Rattle.lease_manager.proofs.opens.Tabling.{kept_mapped, same_id_where}
 use Rattle.lease_manager.proofs.tables.Tables.connect_again.Goals as goal
 
-pub invariant_of-self : goal.invariant_of-self
-invariant_of-self c = (
-  rw c.connect_again.ensures
+pub invariant_of-self-2 : goal.invariant_of-self-2
+invariant_of-self-2 c = (
+  rw c.in_ok-connect_again.ensures.changed
       (kept_mapped c.self.inside.opens (connected_again c.args.fid.0) c.self.inside.summaries c.self.inside.last_id
       c.self.invariant.0 (connection_kept (has_id c.args.fid.0) true) (same_id_where (has_id c.args.fid.0) true)),
   λ file. none_counted _ _ _ _ (c.clear.ensures file),
 )
+
+pub invariant_of-self : goal.invariant_of-self
+invariant_of-self c = rw c.in_err-connect_again.ensures.refused c.self.invariant

@@ -1,23 +1,30 @@
-use Rattle.lease_laws.proofs.Words.{◌∙◌, Open, false, sym, values_of}
-use Rattle.lease_manager.proofs.opens.Filing.{find_filed, values_unset}
-use Rattle.lease_manager.proofs.opens.LeftOpens.{waiting_left}
+use Rattle.lease_laws.proofs.Words.{◌∙◌, Open, false, map, sym, values_of}
+use Rattle.lease_manager.specs.Filed.{connected_at}
+use Rattle.lease_manager.specs.OpenIndex.{IsIndexOf}
+use Rattle.lease_manager.proofs.opens.Filing.{by_its_id, find_filed, values_unset}
 use Rattle.lease_manager.proofs.tables.opens.Opens.disconnect.Goals as goal
 
 pub invariant_of-self-in-Some : goal.invariant_of-self-in-Some
 invariant_of-self-in-Some c =
     let n = c.args.fid.0 in
-    let entries = c.self.inside.by_id.entries in (
+    let entries = c.self.inside.by_id.entries in
+    let opens = values_of entries in (
       c.set_connected.ensures.still_filed,
       c.set_connected.ensures.still_in_order,
       rw c.set_connected.ensures.opens
-          (waiting_left c.self.inside.left c.insert.new.self c.args.fid c.owner-owner.result (values_of entries)
-          c.in-Some.one.now c.self.invariant.1
-          (sym (c.in-Some.ensures.value ∙ find_filed n entries c.self.invariant.0)) c.owner-owner.ensures.client
-          c.owner-owner.ensures.file
-          c.self.invariant.2 c.in_ok-insert-in-Some.ensures.one_more),
+          (by_its_id (λ m. IsIndexOf (map (connected_at m false) opens) c.leave.new.self) n opens c.in-Some.one.now
+          (sym (c.in-Some.ensures.value ∙ find_filed n entries c.self.invariant.0))
+          (λ found. c.in_ok-leave-in-Some.ensures.left opens c.self.invariant.1 found c.self.invariant.2)),
     )
 
 pub returns-in-None : goal.returns-in-None
 returns-in-None c = rw (← c.self.view_is)
     (values_unset c.args.fid.0 (λ (o : Open). record o { connected = false }) c.self.inside.by_id.entries
     c.self.invariant.0 (sym c.in-None.ensures.value))
+
+pub invariant_of-self : goal.invariant_of-self
+invariant_of-self c = (
+  c.self.invariant.0,
+  c.self.invariant.1,
+  c.in_err-leave-in-Some.ensures.refused (values_of c.self.inside.by_id.entries) c.self.invariant.2,
+)

@@ -1,0 +1,33 @@
+use Rattle.lease_laws.proofs.Words.{Open, ap, has_key, refl, true}
+use Rattle.lease_manager.specs.KeyOrder.{key_order}
+use Rattle.lease_manager.specs.OpenIndex.{client_order, is_connected, is_left, owner_order}
+use Rattle.lease_manager.proofs.opens.Indexing.{client_alike, client_back, owner_alike, owner_back, turned_nowhere}
+use Rattle.lease_manager.proofs.opens.Indexing.{turned_off, turned_on, unchanged, refused_so}
+use Rattle.lease_manager.proofs.tables.open_index.OpenIndex.come_back.Goals as goal
+
+pub returns-in_err-insert-clause-refused : goal.returns-in_err-insert-clause-refused
+returns-in_err-insert-clause-refused c = refused_so c.from_residual.result (λ opens index. record {
+  connected = unchanged client_order is_connected c.args.self.now.connected c.insert.new.self opens
+      c.in_err-insert.ensures.refused index.connected;
+  left = index.left;
+  leased = index.leased;
+})
+
+pub returns-clause-back : goal.returns-clause-back
+returns-clause-back c = λ opens rises found index.
+    let one = c.args.one.now in
+    let client = c.one.inside.client in
+    let its = ap (λ (o : Open). o.client) c.one.view_is in
+    let owner = c.owner.result in
+    let is = ap (λ (o : Open). o.file_id) c.one.view_is in
+    record {
+      connected = turned_on client_order is_connected c.args.self.now.connected c.insert.new.self client c.one.inside.file_id
+          true opens one is rises found (λ other at. client_back client other one its at)
+          (λ other apart. client_alike client other true one its apart) c.in_ok-insert.ensures.one_more index.connected;
+      left = turned_off owner_order is_left c.args.self.now.left c.remove.new.self owner c.one.inside.file_id true opens one is
+          rises found (λ other at. owner_back other one)
+          (λ other apart. owner_alike owner other true one c.owner.ensures.client c.owner.ensures.file apart)
+          c.remove.ensures index.left;
+      leased = turned_nowhere key_order has_key c.args.self.now.leased one.file_id true opens one rises found (λ other. refl)
+          index.leased;
+    }
