@@ -1,8 +1,8 @@
 pub mod Expiring
 pub mod Filing
-pub mod Ids
 pub mod Indexing
 pub mod Joining
 pub mod LeftOpens
 pub mod Parting
+pub mod Sets
 pub mod Tabling

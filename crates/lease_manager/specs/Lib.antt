@@ -5,12 +5,12 @@ pub mod Closing
 pub mod Coming
 pub mod Durable
 pub mod Ending
+pub mod Expired
 pub mod Filed
 pub mod Findings
 pub mod GivingUp
 pub mod Hindering
 pub mod Kept
-pub mod Ids
 pub mod KeyOrder
 pub mod Lanes
 pub mod Laws
@@ -27,6 +27,7 @@ pub mod Passing
 pub mod Questions
 pub mod Queues
 pub mod Requests
+pub mod Sets
 pub mod StillWaiting
 pub mod Summaries
 pub mod Table

@@ -1,5 +1,5 @@
 -- What a manager knows as plain lists, and the manager that they stand for.
-use Rattle.std.specs.Prelude.{ℕ, Bool, false, List, [], ◌∷◌, if◌then◌else◌, ◌==◌}
+use Rattle.std.specs.Prelude.{ℕ, Bool, false, List, [], ◌∷◌, if◌then◌else◌, ◌==◌, bytes_eq}
 use Rattle.std.specs.List.{list_any}
 use Rattle.lease_manager.specs.declared.values.number.ClientNo.{ClientNo}
 use Rattle.lease_state.specs.declared.rules.Rules.{Rules}
@@ -18,9 +18,14 @@ pub record KeyedLease : Type 0 where
   pub key : Key
   pub lease : Lease
 
+-- a client, and those of its keys whose break timer ran out since it joined
+pub record Expired : Type 0 where
+  pub client : ℕ
+  pub keys : List (List ℕ)
+
 -- `rules` are those that the manager was given, `files` is the last number of a file. `queues` are of files where requests wait;
 -- `present` are the clients
--- whose connection is there, `expired` the keys whose break timer ran out since their client joined.
+-- whose connection is there, `expired` are of clients that have such keys.
 pub record Table : Type 0 where
   pub rules : Rules
   pub files : ℕ
@@ -28,7 +33,7 @@ pub record Table : Type 0 where
   pub opens : List Open
   pub leases : List KeyedLease
   pub present : List ClientNo
-  pub expired : List Key
+  pub expired : List Expired
   pub last_id : ℕ
 
 -- the client of this number is among these
@@ -48,6 +53,12 @@ abbrev pub lease_at : List KeyedLease → Key → Lease
 lease_at [] key = no_lease
 lease_at (one ∷ leases) key = if key_eq key one.key then one.lease else lease_at leases key
 
+-- the key is among those of its client
+abbrev pub is_expired : List Expired → Key → Bool
+is_expired [] key = false
+is_expired (one ∷ expired) key =
+    if key.client == one.client then list_any (bytes_eq key.bytes) one.keys else is_expired expired key
+
 -- the server that the lists stand for
 abbrev pub server_of : Table → Server
 server_of table = record {
@@ -58,7 +69,7 @@ server_of table = record {
   leases = lease_at table.leases;
   held = held_at table.queues;
   present = is_among table.present;
-  expired = λ key. list_any (key_eq key) table.expired;
+  expired = is_expired table.expired;
   last_id = table.last_id;
 }
 

@@ -1,4 +1,4 @@
-ghost use Rattle.std.specs.Prelude.{◌≡◌, ◌==◌, [], OnOk, filter, not};
+ghost use Rattle.std.specs.Prelude.{◌≡◌, [], OnOk};
 ghost use Rattle.std.specs.List.{list_any};
 ghost use Rattle.lease_manager.specs.Table.{manager_of, server_of};
 ghost use Rattle.manager_model.specs.Hosting.{fresh_manager};
@@ -13,19 +13,19 @@ ghost use Rattle.lease_model.specs.server.Queries as queries;
 
 use crate::tables::opens::Opens;
 use crate::tables::queues::Queues;
+use crate::tables::sets::Sets;
 use crate::tables::summaries::Summaries;
 use crate::tables::waiting::Waiting;
 use crate::values::key::LeaseName;
 use crate::values::lease::HeldLease;
 use crate::values::number::{ClientNo, FileNo};
-use lease_state::{Access, FileId, LeaseState, Memory, Rules, Share};
+use lease_state::{Access, FileId, LeaseKey, LeaseState, Memory, Rules, Share};
 use std::alloc::Global;
 use std::collections::BTreeSet;
 use std::marker::Model;
 
 mod changes;
 pub mod file_summary;
-pub mod ids;
 pub mod lease_marks;
 mod listings;
 mod looks;
@@ -34,6 +34,7 @@ pub mod opens;
 pub mod parting;
 pub mod queue;
 pub mod queues;
+pub mod sets;
 mod still;
 pub mod summaries;
 pub mod tally;
@@ -54,15 +55,17 @@ pub struct Tables {
     summaries: Summaries,
     /// The clients that are connected.
     present: BTreeSet<ClientNo>,
-    /// The keys whose break timer ran out since their client joined.
-    expired: Vec<LeaseName>,
+    /// The keys of each client whose break timer ran out since it joined.
+    expired: Sets<ClientNo, LeaseKey>,
     /// The FileId given last.
     last_id: u64,
     /// The requests that are known to wait still.
     waiting: Waiting,
+    alloc: Global,
 }
 
 impl Model for Tables {
+    ghost use Rattle.lease_manager.specs.Expired.{ran_out};
     ghost use Rattle.lease_manager.specs.Queues.{filed};
     ghost use Rattle.lease_manager.specs.Table as table;
     ghost use Rattle.lease_manager.specs.Kept.{listed, AreKept};
@@ -78,7 +81,7 @@ impl Model for Tables {
       opens = tables.opens;
       leases = listed tables.summaries;
       present = tables.present.keys;
-      expired = tables.expired.items;
+      expired = ran_out tables.expired;
       last_id = tables.last_id;
     } };
 
@@ -99,15 +102,16 @@ impl Tables {
             opens: Opens::new(alloc),
             summaries: Summaries::new(alloc),
             present: BTreeSet::new(alloc),
-            expired: Vec::new(alloc),
+            expired: Sets::new(alloc),
             last_id: 0,
             waiting: Waiting::new(alloc),
+            alloc,
         }
     }
 
     /// The allocator of the tables.
     pub fn alloc(&self) -> Global {
-        *self.expired.allocator()
+        self.alloc
     }
 
     /// The rules that the manager was given.
@@ -148,7 +152,7 @@ impl Tables {
         ensures queues { OnOk result (self.new.queues ≡ self.old.queues) }
     {
         self.present.insert(client)?;
-        forget_expired(&mut self.expired, client);
+        self.expired.clear(client);
         Ok(())
     }
 
@@ -191,11 +195,4 @@ impl Tables {
     {
         self.opens.first_left_by(client, file)
     }
-}
-
-// Keeps the keys of other clients.
-fn forget_expired(expired: &mut Vec<LeaseName>, client: ClientNo)
-    ensures { expired.new.items ≡ filter (λ key. not (key.client == client.0)) expired.old.items }
-{
-    expired.retain(|key| key.client != client);
 }

@@ -6,11 +6,9 @@ use Rattle.std.specs.Ordering.{on}
 use Rattle.lease_laws.proofs.Words.{arith, false, filter, fun_ext, if◌then◌else◌, joined, key_eq, list_any}
 use Rattle.lease_laws.proofs.Words.{nat_tests, not, put, true}
 use Rattle.lease_manager.specs.declared.values.number.ClientNo.{ClientNo}
+use Rattle.lease_manager.specs.OpenIndex.{client_order}
 use Rattle.lease_manager.specs.Outs.{progress_of}
-use Rattle.lease_manager.specs.Table.{Table, is_among, server_of}
-
-abbrev client_order : ClientNo → ClientNo → Ordering
-client_order = on (λ client. client.0) nat_cmp
+use Rattle.lease_manager.specs.Table.{Expired, Table, is_among, is_expired, server_of}
 
 at_client : (client other : ClientNo) → is_at (client_order client) other ≡ (other.0 == client.0)
 at_client client other = grind (arith, nat_tests)
@@ -36,13 +34,6 @@ present_put old new client there updates n =
     let same = at_client client at in
     grind (arith, now, after, before, same)
 
-expired_less : (keys : List Key) (client : ℕ) (key : Key)
-    → list_any (key_eq key) (filter (λ (one : Key). not (one.client == client)) keys)
-    ≡ (if key.client == client then false else list_any (key_eq key) keys)
-unfolding key_eq
-expired_less [] client key = grind (arith, nat_tests)
-expired_less (one ∷ keys) client key = let e = expired_less keys client key in grind (arith, nat_tests)
-
 abbrev with_known : Server → (ℕ → Bool) → (Key → Bool) → Progress
 with_known server present expired =
     record { server = record server { present = present; expired = expired }; outs = [] }
@@ -51,10 +42,9 @@ same_known : (server : Server) (present others : ℕ → Bool) (expired keys : K
     → with_known server present expired ≡ with_known server others keys
 same_known server present others expired keys a b = grind arith
 
-pub tables_joined : (table : Table) (clients : List ClientNo) (client : ClientNo)
-    → ((n : ℕ) → is_among clients n ≡ put (is_among table.present) client.0 true n) → progress_of (record table {
-      present = clients;
-      expired = filter (λ key. not (key.client == client.0)) table.expired;
-    }) [] ≡ joined client.0 (progress_of table [])
-tables_joined table clients client more = same_known (server_of table) _ _ _ _ (fun_ext more)
-    (fun_ext (expired_less table.expired client.0))
+pub tables_joined : (table : Table) (clients : List ClientNo) (expired : List Expired) (client : ClientNo)
+    → ((n : ℕ) → is_among clients n ≡ put (is_among table.present) client.0 true n)
+    → ((key : Key) → is_expired expired key ≡ (if key.client == client.0 then false else is_expired table.expired key))
+    → progress_of (record table { present = clients; expired = expired }) [] ≡ joined client.0 (progress_of table [])
+tables_joined table clients expired client more less =
+    same_known (server_of table) _ _ _ _ (fun_ext more) (fun_ext less)

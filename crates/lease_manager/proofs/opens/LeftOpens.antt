@@ -41,7 +41,7 @@ removed_id n (x ∷ ids) (one ∷ opens) same order =
     let at : test_at n x ≡ false = at_id n x.0 ∙ (ap (λ m. m == n) first ∙ its) in
     rw (at, its) (ap₂ (λ m l. m ∷ l) first (removed_id n ids opens later order.1)))
 
-ordered : {P : Type 0} (o : Ordering) → (o ≡ Less → P) → (o ≡ Equal → P) → (o ≡ Greater → P) → P
+pub ordered : {P : Type 0} (o : Ordering) → (o ≡ Less → P) → (o ≡ Equal → P) → (o ≡ Greater → P) → P
 ordered o less equal more = grind arith
 
 pub inserted_id : (fid : FileId) (ids : List FileId)

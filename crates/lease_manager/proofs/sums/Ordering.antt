@@ -6,7 +6,7 @@ use Rattle.std.specs.Ordering.{is_lt}
 use Rattle.std.specs.Cmp.Lexicographic.{slice_cmp}
 use Rattle.lease_manager.specs.KeyOrder.{key_order}
 
-bytes_same : (xs ys : List ℕ) → is_eq (slice_cmp nat_cmp xs ys) ≡ bytes_eq xs ys
+pub bytes_same : (xs ys : List ℕ) → is_eq (slice_cmp nat_cmp xs ys) ≡ bytes_eq xs ys
 bytes_same [] [] = refl
 bytes_same [] (y ∷ ys) = refl
 bytes_same (x ∷ xs) [] = refl

@@ -152,15 +152,14 @@ impl Tables {
     ///
     /// # Errors
     ///
-    /// `Memory` where there is none left for the list of such keys.
+    /// `Memory` where there is none left for the set of such keys; nothing has changed then.
     pub fn expire(&mut self, key: LeaseName) -> Result<(), Memory>
         ensures changed { OnOk result (server_of self.new ≡ record (server_of self.old) {
           expired = put_key (server_of self.old).expired key true;
         }) }
         ensures queues { OnOk result (self.new.queues ≡ self.old.queues) }
     {
-        self.expired.push(key)?;
-        Ok(())
+        self.expired.insert(self.alloc, key.client, key.bytes)
     }
 
     /// The FileId given last; 0 before the first.

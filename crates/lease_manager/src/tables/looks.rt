@@ -159,7 +159,10 @@ impl Tables {
     pub fn is_expired(&self, key: LeaseName) -> bool
         ensures { result ≡ (server_of self.now).expired key }
     {
-        self.expired.iter().any(|other| key.is(*other))
+        match self.expired.at(key.client) {
+            Some(keys) => keys.contains(&key.bytes),
+            None => false,
+        }
     }
 
     /// The requests that wait on the file, in order of arrival.

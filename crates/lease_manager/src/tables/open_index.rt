@@ -4,14 +4,14 @@ ghost use Rattle.lease_laws.specs.server.Laws.{AreInOrder};
 ghost use Rattle.lease_model.specs.server.State.{Open, has_key};
 ghost use Rattle.lease_model.specs.values.Lists.{without};
 ghost use Rattle.lease_manager.specs.Filed.{connected_at, has_id};
-ghost use Rattle.lease_manager.specs.Ids.{AreIndexed, ids_or_none};
+ghost use Rattle.lease_manager.specs.Sets.{values_or_none};
 ghost use Rattle.lease_manager.specs.KeyOrder.{key_order};
 ghost use Rattle.lease_manager.specs.LeftOpens.{ids_of, numbers};
 ghost use Rattle.lease_manager.specs.Looks.{is_left_by};
-ghost use Rattle.lease_manager.specs.OpenIndex.{IsIndexOf, IsLast};
+ghost use Rattle.lease_manager.specs.OpenIndex.{AreIndexed, IsIndexOf, IsLast};
 ghost use Rattle.lease_manager.specs.Parting.{is_connected_of};
 
-use crate::tables::ids::Ids;
+use crate::tables::sets::Sets;
 use crate::values::key::LeaseName;
 use crate::values::number::ClientNo;
 use crate::values::open::OpenEntry;
@@ -25,11 +25,11 @@ use std::collections::BTreeSet;
 #[derive(Debug, Drop)]
 pub struct OpenIndex {
     /// The opens whose clients are there, by client.
-    connected: Ids<ClientNo>,
+    connected: Sets<ClientNo, FileId>,
     /// The opens that wait for their clients (MS-SMB2 3.3.7.1), by client and file.
-    left: Ids<Owner>,
+    left: Sets<Owner, FileId>,
     /// The opens that have a lease, by its key.
-    leased: Ids<LeaseName>,
+    leased: Sets<LeaseName, FileId>,
 }
 
 impl OpenIndex {
@@ -38,9 +38,9 @@ impl OpenIndex {
         ensures { IsIndexOf [] result }
     {
         OpenIndex {
-            connected: Ids::new(alloc),
-            left: Ids::new(alloc),
-            leased: Ids::new(alloc),
+            connected: Sets::new(alloc),
+            left: Sets::new(alloc),
+            leased: Sets::new(alloc),
         }
     }
 
@@ -71,7 +71,7 @@ impl OpenIndex {
     /// The opens of the client on the file that wait for it, if any do.
     pub fn left_by(&self, owner: Owner) -> Option<&BTreeSet<FileId>>
         ensures { (opens : List Open) → IsIndexOf opens self.now
-            → numbers (ids_or_none (option_map (λ ids. ids.now) result))
+            → numbers (values_or_none (option_map (λ ids. ids.now) result))
             ≡ ids_of (filter (is_left_by owner.client.0 owner.file.0) opens) }
     {
         self.left.at(owner)
@@ -133,7 +133,11 @@ impl OpenIndex {
 }
 
 // One more open is listed under its key, if it has one.
-fn gain_key(leased: &mut Ids<LeaseName>, alloc: Global, one: &OpenEntry) -> Result<(), Memory>
+fn gain_key(
+    leased: &mut Sets<LeaseName, FileId>,
+    alloc: Global,
+    one: &OpenEntry,
+) -> Result<(), Memory>
     ensures { OnOk result ((opens : List Open) → IsLast one.now opens → AreIndexed key_order has_key leased.old opens
         → AreIndexed key_order has_key leased.new (opens ++ one.now ∷ [])) }
 {
@@ -144,7 +148,7 @@ fn gain_key(leased: &mut Ids<LeaseName>, alloc: Global, one: &OpenEntry) -> Resu
 }
 
 // An open is no longer listed under its key.
-fn lose_key(leased: &mut Ids<LeaseName>, one: &OpenEntry)
+fn lose_key(leased: &mut Sets<LeaseName, FileId>, one: &OpenEntry)
     ensures { (opens : List Open) → AreInOrder opens → find (has_id one.now.file_id) opens ≡ Some one.now
         → AreIndexed key_order has_key leased.old opens
         → AreIndexed key_order has_key leased.new (without (has_id one.now.file_id) opens) }

@@ -7,7 +7,7 @@ ghost use Rattle.lease_model.specs.server.State.{Open};
 
 use crate::tables::Tables;
 use crate::tables::changes::{close_all, disconnect_all, forget_opens};
-use crate::tables::ids::listed;
+use crate::tables::sets::listed;
 use crate::values::number::ClientNo;
 use lease_state::{FileId, Memory};
 

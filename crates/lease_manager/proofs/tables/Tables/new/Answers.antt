@@ -4,7 +4,7 @@ use Rattle.lease_manager.proofs.waits.StillWaiting.{none_counted}
 use Rattle.lease_manager.proofs.tables.Tables.new.Goals as goal
 
 pub returns : goal.returns
-returns c = rw (c.new.ensures.filed, c.new-2.ensures, c.new-3.ensures.leases, c.new-4.ensures.empty, c.new-5.ensures.items)
+returns c = rw (c.new.ensures.filed, c.new-2.ensures, c.new-3.ensures.leases, c.new-4.ensures.empty, c.new-5.ensures.empty)
     (new_is_new c.args.rules c.args.files.0)
 
 pub invariant_of-result : goal.invariant_of-result

@@ -6,7 +6,7 @@ use Rattle.lease_manager.proofs.tables.open_index.OpenIndex.new.Goals as goal
 
 pub returns : goal.returns
 returns c = record {
-  connected = none_indexed client_order is_connected c.new.result c.new.ensures;
-  left = none_indexed owner_order is_left c.new-2.result c.new-2.ensures;
-  leased = none_indexed key_order has_key c.new-3.result c.new-3.ensures;
+  connected = none_indexed client_order is_connected c.new.result c.new.ensures.none;
+  left = none_indexed owner_order is_left c.new-2.result c.new-2.ensures.none;
+  leased = none_indexed key_order has_key c.new-3.result c.new-3.ensures.none;
 }
