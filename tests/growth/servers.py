@@ -119,11 +119,11 @@ def limited(name: str, make: Callable[[int], str], unit: str, facts: dict[str, i
 SERVERS = [
     limited("server-acknowledged", server_acknowledged, "lease", {"sent 1 break": 1, "sent 1 ackdone": 1}, ALL_ASKED),
     limited("server-expired", server_expired, "lease", {"sent 1 break": 1}, OPENS_LOOKED_THROUGH),
-    limited("server-conflicts", server_conflicts, "create", {"sent 2 createfailed 1 STATUS_SHARING_VIOLATION": 1}, ALL_ASKED),
+    limited("server-conflicts", server_conflicts, "create", {"sent 2 createfailed 1 STATUS_SHARING_VIOLATION": 1}),
     limited("server-released", server_released, "create", {"opened 1 2": 1}),
     limited("server-cut", server_cut, "open", {"opened 1 1": 1}),
     limited("replay-acknowledged", replay_acknowledged, "lease", {"sent 1": 3}, ALL_ASKED),
-    limited("replay-conflicts", replay_conflicts, "create", {"sent 2": 1}, ALL_ASKED),
+    limited("replay-conflicts", replay_conflicts, "create", {"sent 2": 1}),
     # (at smaller sizes the height of the maps tells: each twice as many opens add a step to 8 steps, or to 12)
     limited("replay-cut", replay_cut, "open", {"opened 1 1": 1}, smallest=512),
 ]

@@ -16,7 +16,7 @@ abbrev pub is_harmless : Lease → Bool
 is_harmless lease = not (hinders_writes lease)
 
 abbrev pub marks_of : Lease → LeaseMarks
-marks_of lease = record { writes = lease.state.write; harmless = is_harmless lease }
+marks_of lease = record { writes = lease.state.write; handles = lease.state.handle; harmless = is_harmless lease }
 
 -- an open on the file has another key than the write, and its lease hinders the write
 abbrev pub is_hinderer : Server → Option Key → ℕ → Open → Bool

@@ -82,13 +82,15 @@ RecordFits key opens None = list_any (has_key key) opens ≡ false
 RecordFits key opens (Some known) = IsRecord key opens known
 
 -- What a file summary says of the opens on its file: their counts, the keys that they have, how many have none, of
--- which of the keys the lease holds W, and of which it hinders no write.
+-- which of the keys the lease holds W, of which it holds H, and of which it hinders no write.
 pub record SumsUp (file : ℕ) (opens : List Open) (leases : Key → Lease) (summary : FileSummary) : Type 0 where
   pub tally : summary.tally ≡ tally_of (is_on file) opens
   pub keys : (key : Key) → contains key_order summary.keys key ≡ list_any (has_key_on file key) opens
   pub keyless : summary.keyless ≡ count (is_keyless_on file) opens
   pub writers : (key : Key) → contains key_order summary.writers key
       ≡ (list_any (has_key_on file key) opens && (leases key).state.write)
+  pub handlers : (key : Key) → contains key_order summary.handlers key
+      ≡ (list_any (has_key_on file key) opens && (leases key).state.handle)
   pub harmless : (key : Key) → contains key_order summary.harmless key
       ≡ (list_any (has_key_on file key) opens && is_harmless (leases key))
 
@@ -99,6 +101,8 @@ pub record Gains (one : Open) (marks : LeaseMarks) (old : FileSummary) (new : Fi
   pub keyless : new.keyless ≡ raised (not (is_some one.lease_key)) old.keyless
   pub writers : (key : Key) → contains key_order new.writers key
       ≡ (if has_key key one then marks.writes else contains key_order old.writers key)
+  pub handlers : (key : Key) → contains key_order new.handlers key
+      ≡ (if has_key key one then marks.handles else contains key_order old.handlers key)
   pub harmless : (key : Key) → contains key_order new.harmless key
       ≡ (if has_key key one then marks.harmless else contains key_order old.harmless key)
 
@@ -110,6 +114,8 @@ pub record Loses (one : Open) (last : Bool) (old : FileSummary) (new : FileSumma
   pub keyless : new.keyless ≡ lowered (not (is_some one.lease_key)) old.keyless
   pub writers : (key : Key) → contains key_order new.writers key
       ≡ (contains key_order old.writers key && not (has_key key one && last))
+  pub handlers : (key : Key) → contains key_order new.handlers key
+      ≡ (contains key_order old.handlers key && not (has_key key one && last))
   pub harmless : (key : Key) → contains key_order new.harmless key
       ≡ (contains key_order old.harmless key && not (has_key key one && last))
 
@@ -120,6 +126,8 @@ pub record IsMarked (key : Key) (marks : LeaseMarks) (old : FileSummary) (new : 
   pub keyless : new.keyless ≡ old.keyless
   pub writers : (other : Key) → contains key_order new.writers other
       ≡ (if key_eq other key then marks.writes else contains key_order old.writers other)
+  pub handlers : (other : Key) → contains key_order new.handlers other
+      ≡ (if key_eq other key then marks.handles else contains key_order old.handlers other)
   pub harmless : (other : Key) → contains key_order new.harmless other
       ≡ (if key_eq other key then marks.harmless else contains key_order old.harmless other)
 

@@ -37,8 +37,8 @@ is_wanted_key summaries demand key =
 
 -- the keys among which are all whose leases can be wanted
 abbrev pub keys_for : Wish → FileSummary → BTreeSet Key
-keys_for (NoHandles access share) summary = summary.keys
-keys_for AnyHandles summary = summary.keys
+keys_for (NoHandles access share) summary = summary.handlers
+keys_for AnyHandles summary = summary.handlers
 keys_for NoWrites summary = summary.writers
 keys_for Nothing summary = summary.keys
 

@@ -255,7 +255,9 @@ wants_to (NoHandles access share) own file key summaries server summary (Some kn
     ∙ (ap (tally_conflicts access share) (sym fits.tally) ∙ both.0) in
     let found = any_has (λ o. has_key key o && conflict access share o.access o.share) server.opens some in
     let parts = and_parts (has_key key found.0) (conflict access share (found.0).access (found.0).share) found.2 in
-    let other = any_has (has_key_on file.0 key) server.opens (sym (s.keys key) ∙ there) in
+    let here = and_parts (list_any (has_key_on file.0 key) server.opens) (lease_in summaries key).state.handle
+    (sym (s.handlers key) ∙ there) in
+    let other = any_has (has_key_on file.0 key) server.opens here.0 in
     let others = and_parts (is_on file.0 other.0) (has_key key other.0) other.2 in
     let same = at_file key known.file.0 server.opens found.0 fits.one_file found.1 parts.0
     ∙ (sym (at_file key known.file.0 server.opens other.0 fits.one_file other.1 others.1)
@@ -285,7 +287,9 @@ wants_to NoWrites own file key summaries server summary (Some known) stand s is 
       has_it = parts.1;
     }
 wants_to AnyHandles own file key summaries server summary (Some known) stand s is fits there apart needs =
-    let found = any_has (has_key_on file.0 key) server.opens (sym (s.keys key) ∙ there) in
+    let here = and_parts (list_any (has_key_on file.0 key) server.opens) (lease_in summaries key).state.handle
+    (sym (s.handlers key) ∙ there) in
+    let found = any_has (has_key_on file.0 key) server.opens here.0 in
     let parts = and_parts (is_on file.0 found.0) (has_key key found.0) found.2 in
     record {
       one = found.0;
@@ -313,6 +317,15 @@ record IsKnown (wish : Wish) (own : Option Key) (key : Key) (summary : FileSumma
   pub apart : not (is_own_key own key) ≡ true
   pub needs : needs_known wish known ≡ true
 
+-- a key that an open on the file has, and whose lease holds H
+handler_there : (file : ℕ) (key : Key) (summaries : Summaries) (opens : List Open) (summary : FileSummary) (known : LeaseRecord)
+    → SumsUp file opens (lease_in summaries) summary → record_at summaries key ≡ Some known
+    → list_any (has_key_on file key) opens ≡ true → (leases.lease_of known.lease).state.handle ≡ true
+    → contains key_order summary.handlers key ≡ true
+handler_there file key summaries opens summary known s is there handles = s.handlers key
+    ∙ and_both (list_any (has_key_on file key) opens) (lease_in summaries key).state.handle there
+    (ap (λ r. (lease_or_none r).state.handle) is ∙ handles)
+
 wants_from : (wish : Wish) (own : Option Key) (file : FileNo) (key : Key) (summaries : Summaries) (server : Server)
     (summary : FileSummary) (known : Option LeaseRecord) (one : Open)
     → StandFor summaries server → SumsUp file.0 server.opens (lease_in summaries) summary
@@ -326,14 +339,16 @@ wants_from (NoHandles access share) own file key summaries server summary (Some 
     wanted in
     let b = and_parts (conflicts_on file.0 access share one) (is_other_on own file.0 one) a.0 in
     let o = on_other own file.0 key one b.1 has in
+    let handles = ap (λ (l : Lease). l.state.handle) (sym (lease_known summaries server key one known stand is has)) ∙ a.1 in
     record {
-      there = s.keys key ∙ has_any (has_key_on file.0 key) one server.opens there o.0;
+      there = handler_there file.0 key summaries server.opens summary known s is
+          (has_any (has_key_on file.0 key) one server.opens there o.0) handles;
       apart = o.1;
       needs = and_both (tally_conflicts access share known.tally) (leases.lease_of known.lease).state.handle
           (ap (tally_conflicts access share) fits.tally ∙ (conflicts_are access share (has_key key) server.opens
           ∙ has_any (λ x. has_key key x && conflict access share x.access x.share) one server.opens there
           (and_both (has_key key one) (conflict access share one.access one.share) has (conflicted file.0 access share one b.0))))
-          (ap (λ (l : Lease). l.state.handle) (sym (lease_known summaries server key one known stand is has)) ∙ a.1);
+          handles;
     }
 wants_from NoWrites own file key summaries server summary (Some known) one stand s is fits there has wanted =
     let a = and_parts (is_other_on own file.0 one) (lease_of_open server one).state.write wanted in
@@ -348,10 +363,12 @@ wants_from NoWrites own file key summaries server summary (Some known) one stand
 wants_from AnyHandles own file key summaries server summary (Some known) one stand s is fits there has wanted =
     let a = and_parts (is_other_on own file.0 one) (lease_of_open server one).state.handle wanted in
     let o = on_other own file.0 key one a.0 has in
+    let handles = ap (λ (l : Lease). l.state.handle) (sym (lease_known summaries server key one known stand is has)) ∙ a.1 in
     record {
-      there = s.keys key ∙ has_any (has_key_on file.0 key) one server.opens there o.0;
+      there = handler_there file.0 key summaries server.opens summary known s is
+          (has_any (has_key_on file.0 key) one server.opens there o.0) handles;
       apart = o.1;
-      needs = ap (λ (l : Lease). l.state.handle) (sym (lease_known summaries server key one known stand is has)) ∙ a.1;
+      needs = handles;
     }
 wants_from Nothing own file key summaries server summary (Some known) one stand s is fits there has wanted =
     let a = and_parts (is_other_on own file.0 one) (holds_any (lease_of_open server one).state) wanted in

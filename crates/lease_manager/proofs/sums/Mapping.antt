@@ -73,6 +73,7 @@ summary_mapped file leases change opens (Some known) keeps fits =
         keyless = fits.sums_up.keyless ∙ sym (count_mapped (is_keyless_on file) change opens
             (λ one. ap₂ (λ o k. o && not (is_some k)) (on_same file change keeps one) (keeps.lease_key one)));
         writers = λ key. fits.sums_up.writers key ∙ ap (λ b. b && (leases key).state.write) (sym (on_key key));
+        handlers = λ key. fits.sums_up.handlers key ∙ ap (λ b. b && (leases key).state.handle) (sym (on_key key));
         harmless = λ key. fits.sums_up.harmless key ∙ ap (λ b. b && is_harmless (leases key)) (sym (on_key key));
       };
     }

@@ -93,8 +93,14 @@ on_itself n = (Decides-eqb n n).1 refl
 abbrev holds_write : Lease → Bool
 holds_write lease = lease.state.write
 
+abbrev holds_handle : Lease → Bool
+holds_handle lease = lease.state.handle
+
 mark_writes : (lease : Lease) (marks : LeaseMarks) → marks_of lease ≡ marks → holds_write lease ≡ marks.writes
 mark_writes lease marks is = ap (λ (m : LeaseMarks). m.writes) is
+
+mark_handles : (lease : Lease) (marks : LeaseMarks) → marks_of lease ≡ marks → holds_handle lease ≡ marks.handles
+mark_handles lease marks is = ap (λ (m : LeaseMarks). m.handles) is
 
 mark_harmless : (lease : Lease) (marks : LeaseMarks) → marks_of lease ≡ marks → is_harmless lease ≡ marks.harmless
 mark_harmless lease marks is = ap (λ (m : LeaseMarks). m.harmless) is
@@ -121,6 +127,14 @@ gains_sums_up one marks old new less more leases later m short after s g = recor
       gained holds_write (has_key key one) (list_any (has_key_on one.file key) less)
       (list_any (has_key_on one.file key) more) marks.writes (leases key) (later key) _ _ now was (rw here at e)
       (after.same key) (λ has. mark_writes (later key) marks (after.own key has));
+  handlers = λ key.
+      let now = g.handlers key in
+      let was = s.handlers key in
+      let e = anys (has_key_on one.file key) one less more m in
+      let here = on_itself one.file in
+      gained holds_handle (has_key key one) (list_any (has_key_on one.file key) less)
+      (list_any (has_key_on one.file key) more) marks.handles (leases key) (later key) _ _ now was (rw here at e)
+      (after.same key) (λ has. mark_handles (later key) marks (after.own key has));
   harmless = λ key.
       let now = g.harmless key in
       let was = s.harmless key in
@@ -158,6 +172,12 @@ sums_up_apart one marks file summary less more leases later m apart after s = re
       let e = anys (has_key_on file key) one less more m in
       let none = elsewhere_none key file one.file less apart in
       stays holds_write (has_key key one) (list_any (has_key_on file key) less) (list_any (has_key_on file key) more)
+      (leases key) (later key) _ was (rw apart at e) (after.same key) (λ has. none (after.home key has));
+  handlers = λ key.
+      let was = s.handlers key in
+      let e = anys (has_key_on file key) one less more m in
+      let none = elsewhere_none key file one.file less apart in
+      stays holds_handle (has_key key one) (list_any (has_key_on file key) less) (list_any (has_key_on file key) more)
       (leases key) (later key) _ was (rw apart at e) (after.same key) (λ has. none (after.home key has));
   harmless = λ key.
       let was = s.harmless key in
@@ -200,6 +220,14 @@ loses_sums_up one last old new less more leases later m left is_last s l = recor
       lost_mark holds_write (has_key key one) (list_any (has_key_on one.file key) less)
       (list_any (has_key_on one.file key) more) last (leases key) (later key) _ _ now was (rw here at e) (is_last key)
       (λ some. left key (has_on key one.file less some));
+  handlers = λ key.
+      let now = l.handlers key in
+      let was = s.handlers key in
+      let e = anys (has_key_on one.file key) one less more m in
+      let here = on_itself one.file in
+      lost_mark holds_handle (has_key key one) (list_any (has_key_on one.file key) less)
+      (list_any (has_key_on one.file key) more) last (leases key) (later key) _ _ now was (rw here at e) (is_last key)
+      (λ some. left key (has_on key one.file less some));
   harmless = λ key.
       let now = l.harmless key in
       let was = s.harmless key in
@@ -234,6 +262,11 @@ sums_up_away one file summary less more leases later m apart left s = record {
       let was = s.writers key in
       let e = anys (has_key_on file key) one less more m in
       stays holds_write (list_any (has_key_on file key) less) (list_any (has_key_on file key) more)
+      (leases key) (later key) _ was (rw apart at e) (λ some. left key (has_on key file less some));
+  handlers = λ key.
+      let was = s.handlers key in
+      let e = anys (has_key_on file key) one less more m in
+      stays holds_handle (list_any (has_key_on file key) less) (list_any (has_key_on file key) more)
       (leases key) (later key) _ was (rw apart at e) (λ some. left key (has_on key file less some));
   harmless = λ key.
       let was = s.harmless key in
@@ -427,5 +460,6 @@ summaries_alike key lease opens leases later known now same fits = λ file. fits
     (λ e. ap marks_of (now other ∙ rw e refl) ∙ (same ∙ ap (λ k. marks_of (leases k)) (sym (key_eq-same other key e))))
     (λ e. ap marks_of (now other ∙ rw e refl))) (fits file)
 
-pub marks_same : (a b : LeaseMarks) → not (beq a.writes b.writes && beq a.harmless b.harmless) ≡ false → a ≡ b
+pub marks_same : (a b : LeaseMarks)
+    → not (beq a.writes b.writes && (beq a.handles b.handles && beq a.harmless b.harmless)) ≡ false → a ≡ b
 marks_same a b e = grind arith

@@ -29,6 +29,8 @@ pub struct FileSummary {
     pub keyless: u64,
     /// Those of the keys whose leases hold `WRITE_CACHING`: one at most, by the laws of servers.
     pub writers: BTreeSet<LeaseName>,
+    /// Those of the keys whose leases hold `HANDLE_CACHING`.
+    pub handlers: BTreeSet<LeaseName>,
     /// Those of the keys whose leases hinder no write under another key: they hold nothing, or are
     /// breaking to nothing. Few do, so these are kept, and not the others.
     pub harmless: BTreeSet<LeaseName>,
@@ -45,6 +47,7 @@ impl FileSummary {
             keys: BTreeSet::new(alloc),
             keyless: 0,
             writers: BTreeSet::new(alloc),
+            handlers: BTreeSet::new(alloc),
             harmless: BTreeSet::new(alloc),
         }
     }
@@ -78,6 +81,8 @@ impl FileSummary {
             ≡ (key_eq other key || contains key_order self.old.keys other)) }
         ensures writers { OnOk result ((other : Key) → contains key_order self.new.writers other
             ≡ (if key_eq other key then marks.writes else contains key_order self.old.writers other)) }
+        ensures handlers { OnOk result ((other : Key) → contains key_order self.new.handlers other
+            ≡ (if key_eq other key then marks.handles else contains key_order self.old.handlers other)) }
         ensures harmless { OnOk result ((other : Key) → contains key_order self.new.harmless other
             ≡ (if key_eq other key then marks.harmless else contains key_order self.old.harmless other)) }
     {
@@ -105,12 +110,15 @@ impl FileSummary {
             ≡ (contains key_order self.old.keys other && not (key_eq other key && last)) }
         ensures writers { (other : Key) → contains key_order self.new.writers other
             ≡ (contains key_order self.old.writers other && not (key_eq other key && last)) }
+        ensures handlers { (other : Key) → contains key_order self.new.handlers other
+            ≡ (contains key_order self.old.handlers other && not (key_eq other key && last)) }
         ensures harmless { (other : Key) → contains key_order self.new.harmless other
             ≡ (contains key_order self.old.harmless other && not (key_eq other key && last)) }
     {
         if last {
             self.keys.remove(&key);
             self.writers.remove(&key);
+            self.handlers.remove(&key);
             self.harmless.remove(&key);
         }
     }
@@ -124,6 +132,7 @@ impl FileSummary {
         ensures { OnOk result (IsMarked key marks self.old self.new) }
     {
         set_member(&mut self.writers, key, marks.writes)?;
+        set_member(&mut self.handlers, key, marks.handles)?;
         set_member(&mut self.harmless, key, marks.harmless)?;
         Ok(())
     }
@@ -179,7 +188,8 @@ impl FileSummary {
     {
         match wish {
             Wish::NoWrites => &self.writers,
-            Wish::NoHandles { .. } | Wish::AnyHandles | Wish::Nothing => &self.keys,
+            Wish::NoHandles { .. } | Wish::AnyHandles => &self.handlers,
+            Wish::Nothing => &self.keys,
         }
     }
 }

@@ -10,6 +10,8 @@ use crate::values::lease::HeldLease;
 pub struct LeaseMarks {
     /// It holds `WRITE_CACHING`.
     pub writes: bool,
+    /// It holds `HANDLE_CACHING`.
+    pub handles: bool,
     /// It hinders no write under another key.
     pub harmless: bool,
 }
@@ -21,6 +23,7 @@ impl LeaseMarks {
     {
         LeaseMarks {
             writes: lease.state.caches_writes(),
+            handles: lease.state.caches_handles(),
             harmless: !hinders_writes(lease),
         }
     }

@@ -1,28 +1,28 @@
 // Made by tools/plain_rust from crates/lease_manager/src/tables.rt. Changes belong there.
 
-use std::prelude::Vec;
-
 use crate::proved::lease_manager::tables::opens::Opens;
 use crate::proved::lease_manager::tables::queues::Queues;
+use crate::proved::lease_manager::tables::sets::Sets;
 use crate::proved::lease_manager::tables::summaries::Summaries;
 use crate::proved::lease_manager::tables::waiting::Waiting;
 use crate::proved::lease_manager::values::key::LeaseName;
 use crate::proved::lease_manager::values::lease::HeldLease;
 use crate::proved::lease_manager::values::number::{ClientNo, FileNo};
-use crate::proved::lease_state::{Access, FileId, LeaseState, Memory, Rules, Share};
+use crate::proved::lease_state::{Access, FileId, LeaseKey, LeaseState, Memory, Rules, Share};
 use std::alloc::Global;
 use std::collections::BTreeSet;
 
 mod changes;
 pub mod file_summary;
 pub mod lease_marks;
-pub mod left_opens;
 mod listings;
 mod looks;
+pub mod open_index;
 pub mod opens;
 pub mod parting;
 pub mod queue;
 pub mod queues;
+pub mod sets;
 mod still;
 pub mod summaries;
 pub mod tally;
@@ -43,12 +43,13 @@ pub struct Tables {
     summaries: Summaries,
     /// The clients that are connected.
     present: BTreeSet<ClientNo>,
-    /// The keys whose break timer ran out since their client joined.
-    expired: Vec<LeaseName>,
+    /// The keys of each client whose break timer ran out since it joined.
+    expired: Sets<ClientNo, LeaseKey>,
     /// The FileId given last.
     last_id: u64,
     /// The requests that are known to wait still.
     waiting: Waiting,
+    alloc: Global,
 }
 
 impl Tables {
@@ -61,15 +62,16 @@ impl Tables {
             opens: Opens::new(alloc),
             summaries: Summaries::new(alloc),
             present: BTreeSet::new(alloc),
-            expired: Vec::new(alloc),
+            expired: Sets::new(alloc),
             last_id: 0,
             waiting: Waiting::new(alloc),
+            alloc,
         }
     }
 
     /// The allocator of the tables.
     pub fn alloc(&self) -> Global {
-        *self.expired.allocator()
+        self.alloc
     }
 
     /// The rules that the manager was given.
@@ -99,7 +101,7 @@ impl Tables {
     /// `Memory` where there is none left for the list of connections.
     pub fn join(&mut self, client: ClientNo) -> Result<(), Memory> {
         self.present.insert(client)?;
-        forget_expired(&mut self.expired, client);
+        self.expired.clear(client);
         Ok(())
     }
 
@@ -127,9 +129,4 @@ impl Tables {
     pub fn kept(&self, client: ClientNo, file: FileNo) -> Option<FileId> {
         self.opens.first_left_by(client, file)
     }
-}
-
-// Keeps the keys of other clients.
-fn forget_expired(expired: &mut Vec<LeaseName>, client: ClientNo) {
-    expired.retain(|key| key.client != client);
 }

@@ -12,5 +12,6 @@ pub mod listed;
 pub mod number;
 pub mod open;
 pub mod out;
+pub mod owner;
 pub mod request;
 pub mod want;

@@ -112,7 +112,7 @@ pub fn reconnect(
     file_id: FileId,
 ) -> Result<(), Memory> {
     let lease = standing_lease(tables, client, asked);
-    tables.connect_again(file_id);
+    tables.connect_again(file_id)?;
     let answer = CreateAnswer { lease: lease_given(asked, lease), durable: false };
     outs.created(client, file_id, answer)
 }

@@ -106,10 +106,9 @@ impl Tables {
     ///
     /// # Errors
     ///
-    /// `Memory` where there is none left for the list of such keys.
+    /// `Memory` where there is none left for the set of such keys; nothing has changed then.
     pub fn expire(&mut self, key: LeaseName) -> Result<(), Memory> {
-        self.expired.push(key)?;
-        Ok(())
+        self.expired.insert(self.alloc, key.client, key.bytes)
     }
 
     /// The FileId given last; 0 before the first.
@@ -138,9 +137,15 @@ impl Tables {
     }
 
     /// The open of this FileId is connected again.
-    pub fn connect_again(&mut self, fid: FileId) {
+    ///
+    /// # Errors
+    ///
+    /// `Memory` where there is none left for it; nothing has changed then.
+    pub fn connect_again(&mut self, fid: FileId) -> Result<(), Memory> {
+        let alloc = self.alloc();
+        self.opens.connect_again(alloc, fid)?;
         self.waiting.clear();
-        self.opens.connect_again(fid);
+        Ok(())
     }
 }
 
@@ -177,7 +182,7 @@ fn close_one(opens: &mut Opens, summaries: &mut Summaries, id: FileId) {
 // Adds an open, with the lease of its key.
 fn add(opens: &mut Opens, summaries: &mut Summaries, alloc: Global, one: OpenEntry, lease: HeldLease) -> Result<(), Memory> {
     summaries.gain(alloc, &one, lease)?;
-    opens.push(one)?;
+    opens.push(alloc, one)?;
     Ok(())
 }
 

@@ -21,6 +21,8 @@ pub struct FileSummary {
     pub keyless: u64,
     /// Those of the keys whose leases hold `WRITE_CACHING`: one at most, by the laws of servers.
     pub writers: BTreeSet<LeaseName>,
+    /// Those of the keys whose leases hold `HANDLE_CACHING`.
+    pub handlers: BTreeSet<LeaseName>,
     /// Those of the keys whose leases hinder no write under another key: they hold nothing, or are
     /// breaking to nothing. Few do, so these are kept, and not the others.
     pub harmless: BTreeSet<LeaseName>,
@@ -34,6 +36,7 @@ impl FileSummary {
             keys: BTreeSet::new(alloc),
             keyless: 0,
             writers: BTreeSet::new(alloc),
+            handlers: BTreeSet::new(alloc),
             harmless: BTreeSet::new(alloc),
         }
     }
@@ -78,6 +81,7 @@ impl FileSummary {
         if last {
             self.keys.remove(&key);
             self.writers.remove(&key);
+            self.handlers.remove(&key);
             self.harmless.remove(&key);
         }
     }
@@ -89,6 +93,7 @@ impl FileSummary {
     /// `Memory` where there is none left for the keys.
     pub fn mark(&mut self, key: LeaseName, marks: LeaseMarks) -> Result<(), Memory> {
         set_member(&mut self.writers, key, marks.writes)?;
+        set_member(&mut self.handlers, key, marks.handles)?;
         set_member(&mut self.harmless, key, marks.harmless)?;
         Ok(())
     }
@@ -142,7 +147,8 @@ impl FileSummary {
     pub fn keys_for(&self, wish: Wish) -> &BTreeSet<LeaseName> {
         match wish {
             Wish::NoWrites => &self.writers,
-            Wish::NoHandles { .. } | Wish::AnyHandles | Wish::Nothing => &self.keys,
+            Wish::NoHandles { .. } | Wish::AnyHandles => &self.handlers,
+            Wish::Nothing => &self.keys,
         }
     }
 }

@@ -7,6 +7,8 @@ use crate::proved::lease_manager::values::lease::HeldLease;
 pub struct LeaseMarks {
     /// It holds `WRITE_CACHING`.
     pub writes: bool,
+    /// It holds `HANDLE_CACHING`.
+    pub handles: bool,
     /// It hinders no write under another key.
     pub harmless: bool,
 }
@@ -14,7 +16,11 @@ pub struct LeaseMarks {
 impl LeaseMarks {
     /// What is marked of this lease.
     pub fn of(lease: HeldLease) -> LeaseMarks {
-        LeaseMarks { writes: lease.state.caches_writes(), harmless: !hinders_writes(lease) }
+        LeaseMarks {
+            writes: lease.state.caches_writes(),
+            handles: lease.state.caches_handles(),
+            harmless: !hinders_writes(lease),
+        }
     }
 }
 

@@ -108,7 +108,10 @@ impl Tables {
 
     /// Whether the timer of the key ran out since its client joined.
     pub fn is_expired(&self, key: LeaseName) -> bool {
-        self.expired.iter().any(|other| key.is(*other))
+        match self.expired.at(key.client) {
+            Some(keys) => keys.contains(&key.bytes),
+            None => false,
+        }
     }
 
     /// The requests that wait on the file, in order of arrival.

@@ -2,12 +2,13 @@
 
 use std::prelude::Vec;
 
-use crate::proved::lease_manager::tables::left_opens::{LeftOpens, Owner};
+use crate::proved::lease_manager::tables::open_index::OpenIndex;
 use crate::proved::lease_manager::tables::summaries::Summaries;
 use crate::proved::lease_manager::values::closing::Closing;
 use crate::proved::lease_manager::values::key::LeaseName;
 use crate::proved::lease_manager::values::number::{ClientNo, FileNo};
 use crate::proved::lease_manager::values::open::{ListedOpen, OpenEntry};
+use crate::proved::lease_manager::values::owner::Owner;
 use crate::proved::lease_state::{FileId, Memory};
 use std::alloc::Global;
 use std::collections::{BTreeMap, BTreeSet};
@@ -16,14 +17,13 @@ use std::collections::{BTreeMap, BTreeSet};
 #[derive(Debug)]
 pub struct Opens {
     by_id: BTreeMap<FileId, OpenEntry>,
-    /// Those of them that wait for their clients.
-    left: LeftOpens,
+    index: OpenIndex,
 }
 
 impl Opens {
     /// No open. Allocates nothing.
     pub fn new(alloc: Global) -> Opens {
-        Opens { by_id: BTreeMap::new(alloc), left: LeftOpens::new(alloc) }
+        Opens { by_id: BTreeMap::new(alloc), index: OpenIndex::new(alloc) }
     }
 
     /// How many there are. They stand in the order of their FileIds, and no two have one.
@@ -48,10 +48,15 @@ impl Opens {
     ///
     /// # Errors
     ///
-    /// `Memory` where there is none left.
-    pub fn push(&mut self, one: OpenEntry) -> Result<(), Memory> {
-        self.by_id.insert(one.file_id, one)?;
-        Ok(())
+    /// `Memory` where there is none left; no open is left then.
+    pub fn push(&mut self, alloc: Global, one: OpenEntry) -> Result<(), Memory> {
+        match file(&mut self.by_id, &mut self.index, alloc, one) {
+            Ok(()) => Ok(()),
+            Err(memory) => {
+                *self = Opens::new(alloc);
+                Err(memory)
+            }
+        }
     }
 
     /// The open of this FileId.
@@ -63,7 +68,7 @@ impl Opens {
     pub fn take(&mut self, fid: FileId) -> Option<OpenEntry> {
         match self.by_id.remove(&fid) {
             Some(one) => {
-                self.left.remove(one.owner(), fid);
+                self.index.lose(&one);
                 Some(one)
             }
             None => None,
@@ -80,14 +85,14 @@ impl Opens {
             Closing::Named(fid) => self.closed_at(alloc, *fid, closing),
             Closing::LeftBehind(fid) => self.closed_at(alloc, *fid, closing),
             Closing::LeftOf(key) => self.left_of(alloc, *key, leases),
-            Closing::Of(_) => self.closed_among(alloc, closing),
+            Closing::Of(key) => self.of_key(alloc, *key),
         }
     }
 
     // The FileIds of the opens of the key that wait for its client.
     fn left_of(&self, alloc: Global, key: LeaseName, leases: &Summaries) -> Result<Vec<FileId>, Memory> {
         // The invariant, which says what is in the sets, is known of what is looked at.
-        let _ = &self.left;
+        let _ = &self.index;
         match leases.home(key) {
             Some(file) => {
                 let ids = self.left_on(alloc, key, file)?;
@@ -100,7 +105,7 @@ impl Opens {
     // The same, of the opens that its client left on the file.
     fn left_on(&self, alloc: Global, key: LeaseName, file: FileNo) -> Result<Vec<FileId>, Memory> {
         let client = key.client;
-        match self.left.at(Owner { client, file }) {
+        match self.index.left_by(Owner { client, file }) {
             Some(left) => {
                 let ids = self.with_key(alloc, key, left)?;
                 Ok(ids)
@@ -143,20 +148,14 @@ impl Opens {
         }
     }
 
-    // The same, by a look at all opens.
-    fn closed_among(&self, alloc: Global, closing: &Closing) -> Result<Vec<FileId>, Memory> {
-        let mut ids = Vec::new(alloc);
-        for one in self.by_id.values() {
-            if closing.closes(one) {
-                ids.push(one.file_id)?;
-            }
-        }
-        Ok(ids)
+    // The FileIds of the opens of the key.
+    fn of_key(&self, alloc: Global, key: LeaseName) -> Result<Vec<FileId>, Memory> {
+        self.index.of_key(alloc, key)
     }
 
     /// The first of the client's opens on the file that wait for it.
     pub fn first_left_by(&self, client: ClientNo, file: FileNo) -> Option<FileId> {
-        match self.left.at(Owner { client, file }) {
+        match self.index.left_by(Owner { client, file }) {
             Some(left) => match left.first() {
                 Some(fid) => Some(*fid),
                 None => None,
@@ -171,13 +170,7 @@ impl Opens {
     ///
     /// `Memory` where there is none left for the list.
     pub fn of_client(&self, alloc: Global, client: ClientNo) -> Result<Vec<FileId>, Memory> {
-        let mut ids = Vec::new(alloc);
-        for one in self.by_id.values() {
-            if one.client == client && one.connected {
-                ids.push(one.file_id)?;
-            }
-        }
-        Ok(ids)
+        self.index.of_client(alloc, client)
     }
 
     /// Those of the FileIds by which the client has a connected open, each once, in their order.
@@ -234,12 +227,11 @@ impl Opens {
     ///
     /// # Errors
     ///
-    /// `Memory` where there is none left for the list of those that wait.
+    /// `Memory` where there is none left for it; nothing has changed then.
     pub fn disconnect(&mut self, alloc: Global, fid: FileId) -> Result<(), Memory> {
         match self.by_id.get(&fid) {
             Some(one) => {
-                let owner = one.owner();
-                self.left.insert(alloc, owner, fid)?;
+                self.index.leave(alloc, one)?;
                 set_connected(&mut self.by_id, fid, false);
                 Ok(())
             }
@@ -248,16 +240,27 @@ impl Opens {
     }
 
     /// The open of this FileId is connected again.
-    pub fn connect_again(&mut self, fid: FileId) {
+    ///
+    /// # Errors
+    ///
+    /// `Memory` where there is none left for it; nothing has changed then.
+    pub fn connect_again(&mut self, alloc: Global, fid: FileId) -> Result<(), Memory> {
         match self.by_id.get(&fid) {
             Some(one) => {
-                let owner = one.owner();
-                self.left.remove(owner, fid);
+                self.index.come_back(alloc, one)?;
                 set_connected(&mut self.by_id, fid, true);
+                Ok(())
             }
-            None => {}
+            None => Ok(()),
         }
     }
+}
+
+// Puts one more open into the map and the index, the last of all.
+fn file(by_id: &mut BTreeMap<FileId, OpenEntry>, index: &mut OpenIndex, alloc: Global, one: OpenEntry) -> Result<(), Memory> {
+    index.gain(alloc, &one)?;
+    by_id.insert(one.file_id, one)?;
+    Ok(())
 }
 
 // Whether it lasts, or where that is asked, whether it doesn't.

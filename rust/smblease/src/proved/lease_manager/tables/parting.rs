@@ -4,10 +4,9 @@ use std::prelude::Vec;
 
 use crate::proved::lease_manager::tables::Tables;
 use crate::proved::lease_manager::tables::changes::{close_all, disconnect_all, forget_opens};
+use crate::proved::lease_manager::tables::sets::listed;
 use crate::proved::lease_manager::values::number::ClientNo;
 use crate::proved::lease_state::{FileId, Memory};
-use std::alloc::Global;
-use std::collections::BTreeSet;
 
 /// Opens of a client whose connection goes (MS-SMB2 3.3.7.1), by their FileIds, rising.
 #[derive(Debug)]
@@ -59,13 +58,4 @@ impl Tables {
             }
         }
     }
-}
-
-// The FileIds, in their order.
-fn listed(alloc: Global, names: &BTreeSet<FileId>) -> Result<Vec<FileId>, Memory> {
-    let mut ids = Vec::new(alloc);
-    for fid in names {
-        ids.push(*fid)?;
-    }
-    Ok(ids)
 }

@@ -1,9 +1,9 @@
 // Made by tools/plain_rust from crates/lease_manager/src/values/open.rt. Changes belong there.
 
-use crate::proved::lease_manager::tables::left_opens::Owner;
 use crate::proved::lease_manager::values::key::LeaseName;
 use crate::proved::lease_manager::values::lease::HeldLease;
 use crate::proved::lease_manager::values::number::{ClientNo, FileNo};
+use crate::proved::lease_manager::values::owner::Owner;
 use crate::proved::lease_state::{Access, FileId, LeaseKey, Share};
 
 /// An open of a file (MS-SMB2 3.3.1.10). A durable open outlives its connection, and is then there

@@ -36,11 +36,12 @@ impl ListedLeaseFields {
             Some(state) => state.to_wire(),
             None => 0,
         };
+        let key = one.key.0;
         ListedLeaseFields {
             client: one.client.0,
             file: one.file.0,
             opens: one.opens,
-            key: one.key.0,
+            key,
             state: one.state.to_wire(),
             broken_to,
             breaking: u8::from(one.broken_to.is_some()),

@@ -65,7 +65,8 @@ impl RequestFields {
         let mut fields = self;
         fields.durable = u8::from(ask.durable);
         if let Some((key, state)) = ask.lease {
-            fields.key = key.0;
+            let bytes = key.0;
+            fields.key = bytes;
             fields.state = state.to_wire();
             fields.has_lease = 1;
         }

@@ -11,6 +11,8 @@ returns-in_ok-gain_key-in-Some c =
       keyless = rw has c.in_ok-gain_key-in-Some.ensures.keyless;
       keys = λ other. rw (has_key_own c.args.one.now c.in-Some.key other own) (c.in_ok-gain_key-in-Some.ensures.keys other);
       writers = λ other. rw (has_key_own c.args.one.now c.in-Some.key other own) (c.in_ok-gain_key-in-Some.ensures.writers other);
+      handlers = λ other.
+          rw (has_key_own c.args.one.now c.in-Some.key other own) (c.in_ok-gain_key-in-Some.ensures.handlers other);
       harmless = λ other.
           rw (has_key_own c.args.one.now c.in-Some.key other own) (c.in_ok-gain_key-in-Some.ensures.harmless other);
     }

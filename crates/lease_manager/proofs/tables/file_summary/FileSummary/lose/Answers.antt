@@ -11,5 +11,6 @@ returns-in-Some c =
       keyless = rw has c.lose_key.ensures.keyless;
       keys = λ other. rw (has_key_own c.args.one.now c.in-Some.key other own) (c.lose_key.ensures.keys other);
       writers = λ other. rw (has_key_own c.args.one.now c.in-Some.key other own) (c.lose_key.ensures.writers other);
+      handlers = λ other. rw (has_key_own c.args.one.now c.in-Some.key other own) (c.lose_key.ensures.handlers other);
       harmless = λ other. rw (has_key_own c.args.one.now c.in-Some.key other own) (c.lose_key.ensures.harmless other);
     }

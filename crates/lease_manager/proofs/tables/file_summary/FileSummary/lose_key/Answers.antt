@@ -16,9 +16,16 @@ returns-then-last-clause-writers c = λ other.
     let yes = c.if-last.true in
     grind (arith, now, same, yes)
 
+pub returns-then-last-clause-handlers : goal.returns-then-last-clause-handlers
+returns-then-last-clause-handlers c = λ other.
+    let now = c.remove-then-last-2.ensures.updates.0 other in
+    let same = order_eq-back c.args.key other in
+    let yes = c.if-last.true in
+    grind (arith, now, same, yes)
+
 pub returns-then-last-clause-harmless : goal.returns-then-last-clause-harmless
 returns-then-last-clause-harmless c = λ other.
-    let now = c.remove-then-last-2.ensures.updates.0 other in
+    let now = c.remove-then-last-3.ensures.updates.0 other in
     let same = order_eq-back c.args.key other in
     let yes = c.if-last.true in
     grind (arith, now, same, yes)
