@@ -107,8 +107,7 @@ def replay_cut(count: int) -> str:
 
 
 # Why families are above their limit. Whoever mends one takes it out here.
-ALL_ASKED = "each try asks every lease of the file"
-OPENS_LOOKED_THROUGH = "each try asks every lease of the file, and each expiry looks through all opens"
+OPENS_LOOKED_THROUGH = "each expiry looks through all opens"
 
 
 def limited(name: str, make: Callable[[int], str], unit: str, facts: dict[str, int], above: str = "", smallest: int = 128) -> Family:
@@ -117,12 +116,12 @@ def limited(name: str, make: Callable[[int], str], unit: str, facts: dict[str, i
 
 
 SERVERS = [
-    limited("server-acknowledged", server_acknowledged, "lease", {"sent 1 break": 1, "sent 1 ackdone": 1}, ALL_ASKED),
+    limited("server-acknowledged", server_acknowledged, "lease", {"sent 1 break": 1, "sent 1 ackdone": 1}),
     limited("server-expired", server_expired, "lease", {"sent 1 break": 1}, OPENS_LOOKED_THROUGH),
     limited("server-conflicts", server_conflicts, "create", {"sent 2 createfailed 1 STATUS_SHARING_VIOLATION": 1}),
     limited("server-released", server_released, "create", {"opened 1 2": 1}),
     limited("server-cut", server_cut, "open", {"opened 1 1": 1}),
-    limited("replay-acknowledged", replay_acknowledged, "lease", {"sent 1": 3}, ALL_ASKED),
+    limited("replay-acknowledged", replay_acknowledged, "lease", {"sent 1": 3}),
     limited("replay-conflicts", replay_conflicts, "create", {"sent 2": 1}),
     # (at smaller sizes the height of the maps tells: each twice as many opens add a step to 8 steps, or to 12)
     limited("replay-cut", replay_cut, "open", {"opened 1 1": 1}, smallest=512),

@@ -1,3 +1,4 @@
+pub mod Awaiting
 pub mod Counted
 pub mod Listed
 pub mod OneFile

@@ -9,7 +9,7 @@ use Rattle.std.specs.Ordering.{nat_cmp, on}
 use Rattle.lease_manager.specs.declared.values.number.FileNo.{FileNo}
 use Rattle.lease_model.specs.server.State.{Server, Open, Lease, no_lease, has_key}
 use Rattle.lease_model.specs.values.Keys.{Key, key_eq}
-use Rattle.lease_manager.specs.Hindering.{is_harmless, marks_of}
+use Rattle.lease_manager.specs.Hindering.{breaks_handle, is_harmless, marks_of}
 use Rattle.lease_manager.specs.KeyOrder.{key_order}
 use Rattle.lease_manager.specs.Leases.{lease_of}
 use Rattle.lease_manager.specs.Looks.{is_elsewhere}
@@ -82,7 +82,8 @@ RecordFits key opens None = list_any (has_key key) opens ≡ false
 RecordFits key opens (Some known) = IsRecord key opens known
 
 -- What a file summary says of the opens on its file: their counts, the keys that they have, how many have none, of
--- which of the keys the lease holds W, of which it holds H, and of which it hinders no write.
+-- which of the keys the lease holds W, of which it holds H, of which it holds H and is breaking, and of which it hinders
+-- no write.
 pub record SumsUp (file : ℕ) (opens : List Open) (leases : Key → Lease) (summary : FileSummary) : Type 0 where
   pub tally : summary.tally ≡ tally_of (is_on file) opens
   pub keys : (key : Key) → contains key_order summary.keys key ≡ list_any (has_key_on file key) opens
@@ -91,6 +92,8 @@ pub record SumsUp (file : ℕ) (opens : List Open) (leases : Key → Lease) (sum
       ≡ (list_any (has_key_on file key) opens && (leases key).state.write)
   pub handlers : (key : Key) → contains key_order summary.handlers key
       ≡ (list_any (has_key_on file key) opens && (leases key).state.handle)
+  pub breaking : (key : Key) → contains key_order summary.breaking key
+      ≡ (list_any (has_key_on file key) opens && breaks_handle (leases key))
   pub harmless : (key : Key) → contains key_order summary.harmless key
       ≡ (list_any (has_key_on file key) opens && is_harmless (leases key))
 
@@ -103,6 +106,8 @@ pub record Gains (one : Open) (marks : LeaseMarks) (old : FileSummary) (new : Fi
       ≡ (if has_key key one then marks.writes else contains key_order old.writers key)
   pub handlers : (key : Key) → contains key_order new.handlers key
       ≡ (if has_key key one then marks.handles else contains key_order old.handlers key)
+  pub breaking : (key : Key) → contains key_order new.breaking key
+      ≡ (if has_key key one then marks.breaks else contains key_order old.breaking key)
   pub harmless : (key : Key) → contains key_order new.harmless key
       ≡ (if has_key key one then marks.harmless else contains key_order old.harmless key)
 
@@ -116,6 +121,8 @@ pub record Loses (one : Open) (last : Bool) (old : FileSummary) (new : FileSumma
       ≡ (contains key_order old.writers key && not (has_key key one && last))
   pub handlers : (key : Key) → contains key_order new.handlers key
       ≡ (contains key_order old.handlers key && not (has_key key one && last))
+  pub breaking : (key : Key) → contains key_order new.breaking key
+      ≡ (contains key_order old.breaking key && not (has_key key one && last))
   pub harmless : (key : Key) → contains key_order new.harmless key
       ≡ (contains key_order old.harmless key && not (has_key key one && last))
 
@@ -128,6 +135,8 @@ pub record IsMarked (key : Key) (marks : LeaseMarks) (old : FileSummary) (new : 
       ≡ (if key_eq other key then marks.writes else contains key_order old.writers other)
   pub handlers : (other : Key) → contains key_order new.handlers other
       ≡ (if key_eq other key then marks.handles else contains key_order old.handlers other)
+  pub breaking : (other : Key) → contains key_order new.breaking other
+      ≡ (if key_eq other key then marks.breaks else contains key_order old.breaking other)
   pub harmless : (other : Key) → contains key_order new.harmless other
       ≡ (if key_eq other key then marks.harmless else contains key_order old.harmless other)
 

@@ -61,6 +61,9 @@ pub struct Tables {
     last_id: u64,
     /// The requests that are known to wait still.
     waiting: Waiting,
+    /// Whether it is known that no open of a lease that is breaking waits for its client. The rules keep it so: such opens are
+    /// closed before their lease is broken, and an open of a lease that is breaking ends with its connection.
+    settled: bool,
     alloc: Global,
 }
 
@@ -69,7 +72,7 @@ impl Model for Tables {
     ghost use Rattle.lease_manager.specs.Queues.{filed};
     ghost use Rattle.lease_manager.specs.Table as table;
     ghost use Rattle.lease_manager.specs.Kept.{listed, AreKept};
-    ghost use Rattle.lease_manager.specs.StillWaiting.{AreKnown};
+    ghost use Rattle.lease_manager.specs.StillWaiting.{AreKnown, AreSettled};
     ghost use Rattle.lease_manager.specs.Summaries.{lease_in};
 
     ghost Value = { table.Table };
@@ -87,7 +90,8 @@ impl Model for Tables {
 
     ghost invariant = { λ tables. AreKept tables.opens tables.summaries tables.last_id
         × AreKnown tables.waiting tables.rules tables.files.0 (table.held_at (filed tables.queues)) tables.opens
-        (lease_in tables.summaries) };
+        (lease_in tables.summaries)
+        × AreSettled tables.settled tables.opens (lease_in tables.summaries) };
 }
 
 impl Tables {
@@ -105,6 +109,7 @@ impl Tables {
             expired: Sets::new(alloc),
             last_id: 0,
             waiting: Waiting::new(alloc),
+            settled: true,
             alloc,
         }
     }

@@ -65,7 +65,7 @@ inserted_at test n (x ∷ opens) one order (inr there) its =
     apart : (m n : ℕ) → m < n → (m == n) ≡ false
     apart m n less = grind (arith, nat_tests, less)
 
-found_is : (n : ℕ) (test : Open → Bool) (opens : List Open) → is_so test opens n ≡ true
+pub found_is : (n : ℕ) (test : Open → Bool) (opens : List Open) → is_so test opens n ≡ true
     → (one : Open) × (Among one opens) × (one.file_id ≡ n) × (test one ≡ true)
 found_is n test [] so = absurd (cc so)
 found_is n test (x ∷ opens) so = either (has_id n x)

@@ -3,17 +3,19 @@ use Rattle.lease_laws.proofs.Words.{◌&&◌, ◌+◌, ◌-◌, ◌∙◌, ◌�
 use Rattle.lease_laws.proofs.Words.{Option, Server, Some, Want, ℕ, [], all_wants, ap, arith, breaks_to_none, false, filter}
 use Rattle.lease_laws.proofs.Words.{has_key, holds_any, if◌then◌else◌, is_at, is_other_on, is_some, keys_of, lease_by}
 use Rattle.lease_laws.proofs.Words.{lease_of_open, length, list_all, list_any, nat_lt, not, nothing_cached, refl, subst, sym}
-use Rattle.lease_laws.proofs.Words.{true}
-use Rattle.std.specs.BTreeSet.{contains}
+use Rattle.lease_laws.proofs.Words.{true, Among}
+use Rattle.std.specs.BTreeSet.{BTreeSet, contains}
 use Rattle.std.specs.List.{AllByRecursion}
 use Rattle.std.specs.List.Sorted.{IsStrictlySortedBy}
 use Rattle.lease_laws.proofs.server.Keys.{key_eq-same, key_eq-refl, lease_by-key}
 use Rattle.lease_laws.proofs.server.KeyOrder.{keys_of-all, among_mapped}
 use Rattle.lease_laws.proofs.server.Lists.{any_has, has_any, all_each, each_all, and_parts, and_both, not_parts, none_has}
-use Rattle.lease_laws.proofs.server.Lists.{not_true, clash, either, among_filter, among_filtered, among_map}
+use Rattle.lease_laws.proofs.server.Lists.{not_false, not_true, clash, either, among_filter, among_filtered, among_map}
 use Rattle.lease_laws.proofs.server.Wants.{keys_of-has}
 use Rattle.lease_manager.specs.Findings.{Look, looked}
-use Rattle.lease_manager.specs.Hindering.{hinders_writes, is_harmless, is_hinderer}
+use Rattle.lease_manager.specs.Hindering.{breaks_handle, hinders_writes, is_harmless, is_hinderer}
+use Rattle.lease_manager.specs.StillWaiting.{AreHandlesBreaking}
+use Rattle.lease_model.specs.server.State.{is_breaking}
 use Rattle.lease_manager.specs.KeyOrder.{key_order}
 use Rattle.lease_manager.specs.Summaries.{StandFor, SumsUp, lease_in, is_on, has_key_on}
 use Rattle.lease_manager.specs.Wanted.{is_own_key, is_hindering, own_hindering}
@@ -55,15 +57,33 @@ is_marked summary key = contains key_order summary.harmless key
 abbrev hindering : FileSummary → List Key
 hindering summary = filter (λ key. not (is_marked summary key)) summary.keys.keys
 
-marked_are : (summary : FileSummary) → ((key : Key) → is_marked summary key ≡ true → contains key_order summary.keys key ≡ true)
-    → IsStrictlySortedBy key_order summary.keys.keys → IsStrictlySortedBy key_order summary.harmless.keys
-    → filter (is_marked summary) summary.keys.keys ≡ summary.harmless.keys
-marked_are summary among sorted marked =
-    one_list _ _ (filter_ordered (is_marked summary) summary.keys.keys (sorted_ordered _ sorted)) (sorted_ordered _ marked)
-    (λ key a. among_members summary.harmless key (among_filter (is_marked summary) key summary.keys.keys a).1)
+-- of two sets the one within the other
+marked_are : (all marked : BTreeSet Key)
+    → ((key : Key) → contains key_order marked key ≡ true → contains key_order all key ≡ true)
+    → IsStrictlySortedBy key_order all.keys → IsStrictlySortedBy key_order marked.keys
+    → filter (contains key_order marked) all.keys ≡ marked.keys
+marked_are all marked among sorted marks =
+    one_list _ _ (filter_ordered (contains key_order marked) all.keys (sorted_ordered _ sorted)) (sorted_ordered _ marks)
+    (λ key a. among_members marked key (among_filter (contains key_order marked) key all.keys a).1)
     (λ key a.
-    let m = member summary.harmless key a in
-    among_filtered (is_marked summary) key summary.keys.keys (among_members summary.keys key (among key m)) m)
+    let m = member marked key a in
+    among_filtered (contains key_order marked) key all.keys (among_members all key (among key m)) m)
+
+-- where it has as many, it has all
+pub as_many : (all marked : BTreeSet Key)
+    → ((key : Key) → contains key_order marked key ≡ true → contains key_order all key ≡ true)
+    → IsStrictlySortedBy key_order all.keys → IsStrictlySortedBy key_order marked.keys → length all.keys ≡ length marked.keys
+    → (key : Key) → contains key_order all key ≡ true → contains key_order marked key ≡ true
+as_many all marked among sorted marks same key has =
+    let e = parts_counted (contains key_order marked) all.keys in
+    let m = ap (λ (keys : List Key). length keys) (marked_are all marked among sorted marks) in
+    let none : length (filter (λ k. not (contains key_order marked k)) all.keys) ≡ 0 = omega (arith, e, m, same) in
+    not_false (contains key_order marked key) (λ no. nobody key (filter (λ k. not (contains key_order marked k)) all.keys) none
+    (among_filtered (λ k. not (contains key_order marked k)) key all.keys (among_members all key has) (ap not no)))
+  where
+    nobody : (key : Key) (keys : List Key) → length keys ≡ 0 → Among key keys → ⊥
+    nobody key [] none there = there
+    nobody key (x ∷ keys) none there = grind arith
 
 hindering_counted : (summary : FileSummary)
     → ((key : Key) → is_marked summary key ≡ true → contains key_order summary.keys key ≡ true)
@@ -71,7 +91,7 @@ hindering_counted : (summary : FileSummary)
     → length (hindering summary) ≡ length summary.keys.keys - length summary.harmless.keys
 hindering_counted summary among sorted marked =
     let e = parts_counted (is_marked summary) summary.keys.keys in
-    let m = ap (λ (keys : List Key). length keys) (marked_are summary among sorted marked) in
+    let m = ap (λ (keys : List Key). length keys) (marked_are summary.keys summary.harmless among sorted marked) in
     omega arith
 
 own_among : (own : Key) (summary : FileSummary) → list_any (is_at (key_order own)) (hindering summary) ≡ is_hindering summary own
@@ -182,6 +202,38 @@ hindered_none own file server none = sym (not_true (list_any (is_hinderer server
     let one = any_has (is_hinderer server own file) server.opens some in
     let parts = and_parts (is_other_on own file one.0) (hinders_writes (lease_of_open server one.0)) one.2 in
     clash (is_on file one.0) (other_here own file one.0 parts.0) (none_has (is_on file) one.0 server.opens none one.1)))
+
+-- ---- leases that hold H
+
+-- the sets of a summary, the one within the other
+pub breaking_within : (file : ℕ) (opens : List Open) (leases : Key → Lease) (summary : FileSummary)
+    → SumsUp file opens leases summary → (key : Key) → contains key_order summary.breaking key ≡ true
+    → contains key_order summary.handlers key ≡ true
+breaking_within file opens leases summary s key has =
+    let parts = and_parts (list_any (has_key_on file key) opens) (breaks_handle (leases key)) (sym (s.breaking key) ∙ has) in
+    s.handlers key ∙ and_both (list_any (has_key_on file key) opens) (leases key).state.handle parts.0
+    (and_parts (leases key).state.handle (is_breaking (leases key)) parts.1).0
+
+handler_keyed : (server : Server) (client : ℕ) (bytes : Option (List ℕ))
+    → (lease_by server client bytes).state.handle ≡ true → is_some bytes ≡ true
+handler_keyed server client bytes handles = grind arith
+
+pub handlers_breaking : (file : ℕ) (summaries : Summaries) (server : Server) (summary : FileSummary)
+    → StandFor summaries server → SumsUp file server.opens (lease_in summaries) summary
+    → ((key : Key) → contains key_order summary.handlers key ≡ true → contains key_order summary.breaking key ≡ true)
+    → AreHandlesBreaking server file
+handlers_breaking file summaries server summary stand s all = λ one a on handles.
+    let key = key_there one.client one.lease_key (handler_keyed server one.client one.lease_key handles) in
+    let used = has_any (has_key_on file key.0) one server.opens a (and_both (is_on file one) (has_key key.0 one) on key.1) in
+    let summed = lease_summed summaries server key.0 one stand key.1 in
+    let has = s.handlers key.0 ∙ and_both (list_any (has_key_on file key.0) server.opens) (lease_in summaries key.0).state.handle
+    used (ap (λ (l : Lease). l.state.handle) (sym summed) ∙ handles) in
+    let parts = and_parts (list_any (has_key_on file key.0) server.opens) (breaks_handle (lease_in summaries key.0))
+    (sym (s.breaking key.0) ∙ all key.0 has) in
+    ap is_breaking summed ∙ (and_parts (lease_in summaries key.0).state.handle (is_breaking (lease_in summaries key.0)) parts.1).1
+
+pub none_breaking : (file : ℕ) (server : Server) → list_any (is_on file) server.opens ≡ false → AreHandlesBreaking server file
+none_breaking file server none = λ one a on handles. clash (is_on file one) on (none_has (is_on file) one server.opens none a)
 
 -- ---- by what the rules want
 

@@ -2,7 +2,7 @@
 use Rattle.lease_laws.proofs.Words.{◌&&◌, ◌==◌, ◌∙◌, ◌∷◌, ◌≡◌, Access, Bool, Key, Lease, List, None, Open, Option, Share, Some, ℕ}
 use Rattle.lease_laws.proofs.Words.{[], allowed_by, ap, ap₂, arith, has_key, if◌then◌else◌, is_key, is_some, list_any, map, not}
 use Rattle.lease_laws.proofs.Words.{refl, sym, uses_of}
-use Rattle.lease_manager.specs.Hindering.{is_harmless}
+use Rattle.lease_manager.specs.Hindering.{breaks_handle, is_harmless}
 use Rattle.lease_manager.specs.Looks.{is_elsewhere}
 use Rattle.lease_manager.specs.Summaries.{Agrees, RecordFits, SummaryFits, record_at, summary_at, lease_in, is_on, has_key_on}
 use Rattle.lease_manager.specs.Summaries.{is_keyless_on}
@@ -74,6 +74,7 @@ summary_mapped file leases change opens (Some known) keeps fits =
             (λ one. ap₂ (λ o k. o && not (is_some k)) (on_same file change keeps one) (keeps.lease_key one)));
         writers = λ key. fits.sums_up.writers key ∙ ap (λ b. b && (leases key).state.write) (sym (on_key key));
         handlers = λ key. fits.sums_up.handlers key ∙ ap (λ b. b && (leases key).state.handle) (sym (on_key key));
+        breaking = λ key. fits.sums_up.breaking key ∙ ap (λ b. b && breaks_handle (leases key)) (sym (on_key key));
         harmless = λ key. fits.sums_up.harmless key ∙ ap (λ b. b && is_harmless (leases key)) (sym (on_key key));
       };
     }

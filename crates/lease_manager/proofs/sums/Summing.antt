@@ -8,7 +8,7 @@ use Rattle.std.proofs.Common.{nat_eq}
 use Rattle.std.specs.BTreeMap.{BTreeMap}
 use Rattle.lease_laws.proofs.server.Keys.{key_eq-same}
 use Rattle.lease_laws.proofs.server.Lists.{either}
-use Rattle.lease_manager.specs.Hindering.{is_harmless, marks_of}
+use Rattle.lease_manager.specs.Hindering.{breaks_handle, is_harmless, marks_of}
 use Rattle.lease_manager.specs.Looks.{is_elsewhere}
 use Rattle.lease_manager.specs.Summaries.{IsOneMore, file_order, is_on, has_key_on, is_keyless_on, SumsUp, IsSummary, SummaryFits}
 use Rattle.lease_manager.specs.Summaries.{Gains, Loses, IsMarked, AreAfter, AreLeft, IsPut}
@@ -102,6 +102,9 @@ mark_writes lease marks is = ap (λ (m : LeaseMarks). m.writes) is
 mark_handles : (lease : Lease) (marks : LeaseMarks) → marks_of lease ≡ marks → holds_handle lease ≡ marks.handles
 mark_handles lease marks is = ap (λ (m : LeaseMarks). m.handles) is
 
+mark_breaks : (lease : Lease) (marks : LeaseMarks) → marks_of lease ≡ marks → breaks_handle lease ≡ marks.breaks
+mark_breaks lease marks is = ap (λ (m : LeaseMarks). m.breaks) is
+
 mark_harmless : (lease : Lease) (marks : LeaseMarks) → marks_of lease ≡ marks → is_harmless lease ≡ marks.harmless
 mark_harmless lease marks is = ap (λ (m : LeaseMarks). m.harmless) is
 
@@ -135,6 +138,14 @@ gains_sums_up one marks old new less more leases later m short after s g = recor
       gained holds_handle (has_key key one) (list_any (has_key_on one.file key) less)
       (list_any (has_key_on one.file key) more) marks.handles (leases key) (later key) _ _ now was (rw here at e)
       (after.same key) (λ has. mark_handles (later key) marks (after.own key has));
+  breaking = λ key.
+      let now = g.breaking key in
+      let was = s.breaking key in
+      let e = anys (has_key_on one.file key) one less more m in
+      let here = on_itself one.file in
+      gained breaks_handle (has_key key one) (list_any (has_key_on one.file key) less)
+      (list_any (has_key_on one.file key) more) marks.breaks (leases key) (later key) _ _ now was (rw here at e)
+      (after.same key) (λ has. mark_breaks (later key) marks (after.own key has));
   harmless = λ key.
       let now = g.harmless key in
       let was = s.harmless key in
@@ -178,6 +189,12 @@ sums_up_apart one marks file summary less more leases later m apart after s = re
       let e = anys (has_key_on file key) one less more m in
       let none = elsewhere_none key file one.file less apart in
       stays holds_handle (has_key key one) (list_any (has_key_on file key) less) (list_any (has_key_on file key) more)
+      (leases key) (later key) _ was (rw apart at e) (after.same key) (λ has. none (after.home key has));
+  breaking = λ key.
+      let was = s.breaking key in
+      let e = anys (has_key_on file key) one less more m in
+      let none = elsewhere_none key file one.file less apart in
+      stays breaks_handle (has_key key one) (list_any (has_key_on file key) less) (list_any (has_key_on file key) more)
       (leases key) (later key) _ was (rw apart at e) (after.same key) (λ has. none (after.home key has));
   harmless = λ key.
       let was = s.harmless key in
@@ -228,6 +245,14 @@ loses_sums_up one last old new less more leases later m left is_last s l = recor
       lost_mark holds_handle (has_key key one) (list_any (has_key_on one.file key) less)
       (list_any (has_key_on one.file key) more) last (leases key) (later key) _ _ now was (rw here at e) (is_last key)
       (λ some. left key (has_on key one.file less some));
+  breaking = λ key.
+      let now = l.breaking key in
+      let was = s.breaking key in
+      let e = anys (has_key_on one.file key) one less more m in
+      let here = on_itself one.file in
+      lost_mark breaks_handle (has_key key one) (list_any (has_key_on one.file key) less)
+      (list_any (has_key_on one.file key) more) last (leases key) (later key) _ _ now was (rw here at e) (is_last key)
+      (λ some. left key (has_on key one.file less some));
   harmless = λ key.
       let now = l.harmless key in
       let was = s.harmless key in
@@ -267,6 +292,11 @@ sums_up_away one file summary less more leases later m apart left s = record {
       let was = s.handlers key in
       let e = anys (has_key_on file key) one less more m in
       stays holds_handle (list_any (has_key_on file key) less) (list_any (has_key_on file key) more)
+      (leases key) (later key) _ was (rw apart at e) (λ some. left key (has_on key file less some));
+  breaking = λ key.
+      let was = s.breaking key in
+      let e = anys (has_key_on file key) one less more m in
+      stays breaks_handle (list_any (has_key_on file key) less) (list_any (has_key_on file key) more)
       (leases key) (later key) _ was (rw apart at e) (λ some. left key (has_on key file less some));
   harmless = λ key.
       let was = s.harmless key in
@@ -461,5 +491,6 @@ summaries_alike key lease opens leases later known now same fits = λ file. fits
     (λ e. ap marks_of (now other ∙ rw e refl))) (fits file)
 
 pub marks_same : (a b : LeaseMarks)
-    → not (beq a.writes b.writes && (beq a.handles b.handles && beq a.harmless b.harmless)) ≡ false → a ≡ b
+    → not (beq a.writes b.writes && (beq a.handles b.handles && (beq a.breaks b.breaks && beq a.harmless b.harmless))) ≡ false
+    → a ≡ b
 marks_same a b e = grind arith

@@ -167,7 +167,7 @@ apart_here file one opens key off home some = not_true (has_key key one) (λ has
     (sym ((Decides-eqb (known.0).file one.file).0 t) ∙ (Decides-eqb (known.0).file file).0 there.1)) off)
     (λ f. clash (is_elsewhere key one.file known.0) (and_both (has_key key known.0) _ known.2 (ap not f)) none))
 
-any_more : (test : Open → Bool) (opens : List Open) (one : Open) → list_any test opens ≡ false → test one ≡ false
+pub any_more : (test : Open → Bool) (opens : List Open) (one : Open) → list_any test opens ≡ false → test one ≡ false
     → list_any test (opens ++ one ∷ []) ≡ false
 any_more test [] one none last = rw last refl
 any_more test (first ∷ opens) one none last = either (test first)

@@ -6,7 +6,8 @@ ghost use Rattle.lease_laws.specs.server.Laws.{Among, AreInOrder};
 ghost use Rattle.lease_model.specs.server.Grant.{connected_again};
 ghost use Rattle.lease_model.specs.server.Naming.{key_of_open};
 ghost use Rattle.lease_model.specs.server.Progress.{with_lease, with_opens};
-ghost use Rattle.lease_model.specs.server.State.{Open, has_key, has_lease, no_lease};
+ghost use Rattle.lease_model.specs.server.Attempt.{is_left_open};
+ghost use Rattle.lease_model.specs.server.State.{Open, has_key, has_lease, is_breaking, no_lease};
 ghost use Rattle.lease_model.specs.values.Keys.{Key};
 ghost use Rattle.lease_model.specs.values.Lists.{without};
 ghost use Rattle.lease_model.specs.values.Tables.{put, put_key};
@@ -48,9 +49,20 @@ impl Tables {
         ensures queues { OnOk result (self.new.queues ≡ self.old.queues) }
     {
         let alloc = self.alloc();
+        let settled = keeps_settled(
+            self.settled,
+            &self.opens,
+            &self.summaries,
+            alloc,
+            key,
+            lease,
+        );
         forget_home(&mut self.waiting, &self.summaries, key);
         match self.summaries.put(key, lease) {
-            Ok(()) => Ok(()),
+            Ok(()) => {
+                self.settled = settled;
+                Ok(())
+            }
             Err(memory) => {
                 self.waiting.clear();
                 forget_opens(&mut self.opens, &mut self.summaries, alloc);
@@ -183,10 +195,21 @@ impl Tables {
         ensures queues { OnOk result (self.new.queues ≡ self.old.queues) }
     {
         let alloc = self.alloc();
+        let settled = opens_settled(
+            self.settled,
+            &self.opens,
+            &self.summaries,
+            alloc,
+            &one,
+            lease,
+        );
         forget_for(&mut self.waiting, &self.queues, &one);
         self.last_id = one.file_id.0;
         match add(&mut self.opens, &mut self.summaries, alloc, one, lease) {
-            Ok(()) => Ok(()),
+            Ok(()) => {
+                self.settled = settled;
+                Ok(())
+            }
             Err(memory) => {
                 self.waiting.clear();
                 forget_opens(&mut self.opens, &mut self.summaries, alloc);
@@ -296,6 +319,52 @@ fn leave_queues(queues: &mut Queues, files: &[FileNo], client: ClientNo, tags: &
 {
     for file in files {
         queues.leave(*file, client, tags);
+    }
+}
+
+// Whether it stays known that no open of a lease that is breaking is left to be closed, where the lease of the key becomes
+// this one.
+fn keeps_settled(
+    known: bool,
+    opens: &Opens,
+    summaries: &Summaries,
+    alloc: Global,
+    key: LeaseName,
+    lease: HeldLease,
+) -> bool
+    requires { Agrees summaries.now opens.now }
+    ensures known { result ≡ true → known ≡ true }
+    ensures none { result ≡ true → is_breaking (lease_of lease) ≡ true → list_any (is_left_open key) opens.now ≡ false }
+{
+    if !known {
+        return false;
+    }
+    if !lease.is_breaking() {
+        return true;
+    }
+    match opens.closed(alloc, &Closing::LeftOf(key), summaries) {
+        Ok(left) => left.is_empty(),
+        Err(_) => false,
+    }
+}
+
+// The same where an open comes, the lease of whose key becomes this one.
+fn opens_settled(
+    known: bool,
+    opens: &Opens,
+    summaries: &Summaries,
+    alloc: Global,
+    one: &OpenEntry,
+    lease: HeldLease,
+) -> bool
+    requires { Agrees summaries.now opens.now }
+    ensures known { result ≡ true → known ≡ true }
+    ensures none { result ≡ true → (key : Key) → has_key key one.now ≡ true → is_breaking (lease_of lease) ≡ true
+        → list_any (is_left_open key) opens.now ≡ false }
+{
+    match one.key() {
+        Some(key) => keeps_settled(known, opens, summaries, alloc, key, lease),
+        None => known,
     }
 }
 

@@ -1,4 +1,4 @@
-ghost use Rattle.std.specs.Prelude.{◌≡◌, ℕ, false, not, ◌&&◌, ◌||◌, if◌then◌else◌, List, OnOk};
+ghost use Rattle.std.specs.Prelude.{◌≡◌, ℕ, true, false, not, ◌&&◌, ◌||◌, if◌then◌else◌, List, OnOk};
 ghost use Rattle.std.specs.List.{list_any};
 ghost use Rattle.lease_model.specs.server.Allowed.{is_other_on};
 ghost use Rattle.lease_model.specs.server.State.{Open, Lease};
@@ -31,6 +31,8 @@ pub struct FileSummary {
     pub writers: BTreeSet<LeaseName>,
     /// Those of the keys whose leases hold `HANDLE_CACHING`.
     pub handlers: BTreeSet<LeaseName>,
+    /// Those of these whose leases are breaking.
+    pub breaking: BTreeSet<LeaseName>,
     /// Those of the keys whose leases hinder no write under another key: they hold nothing, or are
     /// breaking to nothing. Few do, so these are kept, and not the others.
     pub harmless: BTreeSet<LeaseName>,
@@ -48,6 +50,7 @@ impl FileSummary {
             keyless: 0,
             writers: BTreeSet::new(alloc),
             handlers: BTreeSet::new(alloc),
+            breaking: BTreeSet::new(alloc),
             harmless: BTreeSet::new(alloc),
         }
     }
@@ -83,6 +86,8 @@ impl FileSummary {
             ≡ (if key_eq other key then marks.writes else contains key_order self.old.writers other)) }
         ensures handlers { OnOk result ((other : Key) → contains key_order self.new.handlers other
             ≡ (if key_eq other key then marks.handles else contains key_order self.old.handlers other)) }
+        ensures breaking { OnOk result ((other : Key) → contains key_order self.new.breaking other
+            ≡ (if key_eq other key then marks.breaks else contains key_order self.old.breaking other)) }
         ensures harmless { OnOk result ((other : Key) → contains key_order self.new.harmless other
             ≡ (if key_eq other key then marks.harmless else contains key_order self.old.harmless other)) }
     {
@@ -112,6 +117,8 @@ impl FileSummary {
             ≡ (contains key_order self.old.writers other && not (key_eq other key && last)) }
         ensures handlers { (other : Key) → contains key_order self.new.handlers other
             ≡ (contains key_order self.old.handlers other && not (key_eq other key && last)) }
+        ensures breaking { (other : Key) → contains key_order self.new.breaking other
+            ≡ (contains key_order self.old.breaking other && not (key_eq other key && last)) }
         ensures harmless { (other : Key) → contains key_order self.new.harmless other
             ≡ (contains key_order self.old.harmless other && not (key_eq other key && last)) }
     {
@@ -119,6 +126,7 @@ impl FileSummary {
             self.keys.remove(&key);
             self.writers.remove(&key);
             self.handlers.remove(&key);
+            self.breaking.remove(&key);
             self.harmless.remove(&key);
         }
     }
@@ -133,6 +141,7 @@ impl FileSummary {
     {
         set_member(&mut self.writers, key, marks.writes)?;
         set_member(&mut self.handlers, key, marks.handles)?;
+        set_member(&mut self.breaking, key, marks.breaks)?;
         set_member(&mut self.harmless, key, marks.harmless)?;
         Ok(())
     }
@@ -180,6 +189,15 @@ impl FileSummary {
         ensures { result ≡ is_hindering self.now key }
     {
         self.keys.contains(&key) && !self.harmless.contains(&key)
+    }
+
+    /// Whether each of the leases that hold `HANDLE_CACHING` is breaking.
+    pub fn are_handlers_breaking(&self) -> bool
+        ensures { (file : ℕ) (opens : List Open) (leases : Key → Lease) → SumsUp file opens leases self.now
+            → result ≡ true → (key : Key) → contains key_order self.now.handlers key ≡ true
+            → contains key_order self.now.breaking key ≡ true }
+    {
+        self.handlers.len() == self.breaking.len()
     }
 
     /// The keys among which are all whose leases can be wanted.

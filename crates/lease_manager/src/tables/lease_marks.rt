@@ -12,6 +12,8 @@ pub struct LeaseMarks {
     pub writes: bool,
     /// It holds `HANDLE_CACHING`.
     pub handles: bool,
+    /// It holds `HANDLE_CACHING`, and is breaking.
+    pub breaks: bool,
     /// It hinders no write under another key.
     pub harmless: bool,
 }
@@ -24,6 +26,7 @@ impl LeaseMarks {
         LeaseMarks {
             writes: lease.state.caches_writes(),
             handles: lease.state.caches_handles(),
+            breaks: lease.state.caches_handles() && lease.is_breaking(),
             harmless: !hinders_writes(lease),
         }
     }

@@ -1,4 +1,8 @@
-ghost use Rattle.std.specs.Prelude.{◌≡◌, true, false, IfOk, OnOk, List, map};
+ghost use Rattle.std.specs.Prelude.{◌≡◌, ℕ, true, false, IfOk, OnOk, List, Some, map};
+ghost use Rattle.std.specs.Option.{option_map};
+ghost use Rattle.lease_model.specs.messages.Requests.{FileRequest};
+ghost use Rattle.lease_model.specs.server.Findings.{is_leased_elsewhere};
+ghost use Rattle.lease_model.specs.server.Naming.{own_key};
 ghost use Rattle.std.specs.List.{list_all, list_any};
 ghost use Rattle.lease_model.specs.server.Ready.{is_ready};
 ghost use Rattle.lease_model.specs.server.State.{Open, has_key};
@@ -6,9 +10,9 @@ ghost use Rattle.lease_manager.specs.Filed.{has_id};
 ghost use Rattle.lease_manager.specs.Kept.{is_one_of};
 ghost use Rattle.lease_manager.specs.OneFile.{on_file, IsOnlyAbout};
 ghost use Rattle.lease_manager.specs.Queues.{filed};
-ghost use Rattle.lease_manager.specs.Requests.{request_like};
+ghost use Rattle.lease_manager.specs.Requests.{ask_of, lease_asked, request_like};
 ghost use Rattle.lease_manager.specs.StillWaiting.{WaitStill, StaysAt, IsTriedInVain, HasOnlyToWait, OnlyWaits, is_under_way};
-ghost use Rattle.lease_manager.specs.StillWaiting.{HaveForgotten, HaveForgottenFor};
+ghost use Rattle.lease_manager.specs.StillWaiting.{AreHandlesGoing, AwaitsHandles, HaveForgotten, HaveForgottenFor};
 ghost use Rattle.lease_manager.specs.Summaries.{Agrees};
 ghost use Rattle.lease_manager.specs.Table.{held_at, server_of};
 
@@ -23,9 +27,9 @@ use crate::values::closing::Closing;
 use crate::values::key::LeaseName;
 use crate::values::number::{ClientNo, FileNo};
 use crate::values::open::OpenEntry;
-use crate::values::request::{Ask, key_asked};
-use crate::values::want::Want;
-use lease_state::{FileId, Memory};
+use crate::values::request::{Ask, CreateAsk, key_asked};
+use crate::values::want::{Want, Wish};
+use lease_state::{Access, FileId, Memory, Share};
 
 impl Tables {
     /// How many requests at the front of the file's queue are known to wait still.
@@ -73,6 +77,9 @@ impl Tables {
         if !self.is_only_about(file, client, ask) {
             return Ok(false);
         }
+        if self.awaits_handles(client, ask) {
+            return Ok(true);
+        }
         match self.finding(client, ask)? {
             Finding::Fails(_) | Finding::Ready(_) => Ok(false),
             Finding::Needs(wants) => {
@@ -100,6 +107,72 @@ impl Tables {
             }
             Ask::Read { .. } | Ask::Close { .. } => false,
         }
+    }
+
+    // Whether it is a create that handles of other keys are in the way of, where all that are on the file are being given up.
+    // So an acknowledgment of one break of many takes no look at the others.
+    fn awaits_handles(&self, client: ClientNo, ask: Ask) -> bool
+        ensures { result ≡ true → (file : ℕ) → IsOnlyAbout (server_of self.now) file client.0 (request_like ask)
+            → HasOnlyToWait (server_of self.now) file client.0 (request_like ask) }
+    {
+        match ask {
+            Ask::Create {
+                file,
+                access,
+                share,
+                ask,
+            } => self.create_awaits_handles(client, file, access, share, ask),
+            Ask::Read { .. } | Ask::Write { .. } | Ask::Close { .. } => false,
+        }
+    }
+
+    fn create_awaits_handles(
+        &self,
+        client: ClientNo,
+        file: FileNo,
+        access: Access,
+        share: Share,
+        ask: CreateAsk,
+    ) -> bool
+        ensures { result ≡ true
+            → is_leased_elsewhere (server_of self.now) (own_key client.0 (option_map lease_asked ask.lease)) file.0 ≡ false
+            → HasOnlyToWait (server_of self.now) file.0 client.0 (FileRequest.Create file.0 access share (Some (ask_of ask))) }
+    {
+        if !self.has_file(file) {
+            return false;
+        }
+        match ask.reconnect {
+            Some(_) => false,
+            None => self.are_handles_awaited(key_asked(client, ask.lease), file, access, share),
+        }
+    }
+
+    // Whether handles of other keys are in the way of a create, and all that are on the file are being given up.
+    fn are_handles_awaited(
+        &self,
+        own: Option<LeaseName>,
+        file: FileNo,
+        access: Access,
+        share: Share,
+    ) -> bool
+        ensures { result ≡ true → AwaitsHandles (server_of self.now) own file.0 access share }
+    {
+        if !self.are_handles_going(file) {
+            return false;
+        }
+        self.is_any_wanted(Wish::NoHandles { access, share }, own, file)
+    }
+
+    // Whether each lease on the file that holds `HANDLE_CACHING` is breaking, and no open of such a lease is left to be closed.
+    fn are_handles_going(&self, file: FileNo) -> bool
+        ensures { result ≡ true → AreHandlesGoing (server_of self.now) file.0 }
+    {
+        // The invariant, which says what is known of opens that are left, is known of what is looked at.
+        let _ = &self.summaries;
+        if !self.settled {
+            return false;
+        }
+        self.summaries.are_handlers_breaking(file)
     }
 
     // Whether a request that can't be answered has to wait for some of its wants, and all of them are

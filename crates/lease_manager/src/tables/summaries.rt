@@ -22,6 +22,7 @@ ghost use Rattle.lease_manager.specs.Closing.{lease_under};
 ghost use Rattle.lease_manager.specs.Looks.{is_elsewhere};
 ghost use Rattle.lease_manager.specs.Summaries.{Agrees, IsOneMore, AreAfter, IsHome, SummaryFits, summary_at};
 ghost use Rattle.std.specs.Option.{option_map};
+ghost use Rattle.lease_manager.specs.StillWaiting.{AreHandlesBreaking};
 
 use crate::tables::file_summary::FileSummary;
 use crate::tables::lease_marks::LeaseMarks;
@@ -344,6 +345,16 @@ impl Summaries {
         match self.files.get(&file) {
             Some(summary) => summary.is_hindered(own),
             None => false,
+        }
+    }
+
+    /// Whether each lease on the file that holds `HANDLE_CACHING` is breaking.
+    pub fn are_handlers_breaking(&self, file: FileNo) -> bool
+        ensures { (server : Server) → StandFor self.now server → result ≡ true → AreHandlesBreaking server file.0 }
+    {
+        match self.files.get(&file) {
+            Some(summary) => summary.are_handlers_breaking(),
+            None => true,
         }
     }
 

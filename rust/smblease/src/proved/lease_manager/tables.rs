@@ -49,6 +49,9 @@ pub struct Tables {
     last_id: u64,
     /// The requests that are known to wait still.
     waiting: Waiting,
+    /// Whether it is known that no open of a lease that is breaking waits for its client. The rules keep it so: such opens are
+    /// closed before their lease is broken, and an open of a lease that is breaking ends with its connection.
+    settled: bool,
     alloc: Global,
 }
 
@@ -65,6 +68,7 @@ impl Tables {
             expired: Sets::new(alloc),
             last_id: 0,
             waiting: Waiting::new(alloc),
+            settled: true,
             alloc,
         }
     }

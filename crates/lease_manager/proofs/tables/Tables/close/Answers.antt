@@ -1,6 +1,7 @@
 use Rattle.lease_laws.proofs.Words.{◌∙◌, ◌≡◌, FileId, [], ap, arith, length, map, refl, sym}
 use Rattle.std.specs.Vec.{vec_len}
 use Rattle.lease_manager.specs.contracts.tables.Tables.{the_view}
+use Rattle.lease_manager.proofs.waits.Awaiting.{closed_settled}
 use Rattle.lease_manager.proofs.waits.Counted.{no_ids}
 use Rattle.lease_manager.proofs.waits.Settled.{known_settled, settled_closed}
 use Rattle.lease_manager.proofs.opens.Tabling.{closed_none, kept_left, table_closed}
@@ -19,6 +20,9 @@ invariant_of-self c = (
       c.self.inside.opens c.close_all.new.opens _ c.self.inside.summaries c.close_all.new.summaries
       (rw c.deref-2.ensures.value at (c.close_all.ensures c.self.invariant.0.agree))
       (rw c.deref.ensures.value at c.forget_files.ensures)) c.self.invariant.1,
+  closed_settled c.self.inside.settled c.self.inside.opens c.close_all.new.opens _ c.self.inside.summaries
+      c.close_all.new.summaries (rw c.deref-2.ensures.value at (c.close_all.ensures c.self.invariant.0.agree))
+      c.self.invariant.2,
 )
 
 pub returns-clause-closed : goal.returns-clause-closed

@@ -14,4 +14,5 @@ invariant_of-self-then-place-held c = (
       (held_inside _ _ (rw (c.held.ensures, ← c.self.view_is) at c.if-place-held.true))
       (stays_decided (the_view c.self.inside) c.self.inside.summaries c.args.file.0 _ c.args.place refl
       (rw (← c.self.view_is) at c.requires)) c.self.invariant.1,
+  c.self.invariant.2,
 )

@@ -10,4 +10,4 @@ returns c = rw (← c.self.view_is) (table_gone (the_view c.self.inside) _ _ c.a
     c.in_ok-files.ensures (rw c.deref.ensures.value at c.forget_queues.ensures)) c.forget_connection.ensures)
 
 pub invariant_of-self : goal.invariant_of-self
-invariant_of-self c = (c.self.invariant.0, λ file. none_counted _ _ _ _ (c.clear.ensures file))
+invariant_of-self c = (c.self.invariant.0, λ file. none_counted _ _ _ _ (c.clear.ensures file), c.self.invariant.2)

@@ -20,3 +20,18 @@ returns-in_ok-waits-in-Needs-clause-vain c = λ yes.
     rw (← c.self.view_is)
     (in_vain_now (the_view c.self.inside) c.self.inside.summaries c.args.file.0 c.args.client.0 (request_like c.args.ask)
     c.self.invariant.0 refl (rw (← c.self.view_is) at has))
+
+pub returns-then-awaits_handles-clause-waits : goal.returns-then-awaits_handles-clause-waits
+returns-then-awaits_handles-clause-waits c = λ yes.
+    c.awaits_handles.ensures c.if-awaits_handles.true c.args.file.0 (c.is_only_about.ensures c.if-not-is_only_about.false)
+
+pub returns-then-awaits_handles-clause-about : goal.returns-then-awaits_handles-clause-about
+returns-then-awaits_handles-clause-about c = λ yes. c.is_only_about.ensures c.if-not-is_only_about.false
+
+pub returns-then-awaits_handles-clause-vain : goal.returns-then-awaits_handles-clause-vain
+returns-then-awaits_handles-clause-vain c = λ yes.
+    let has = c.awaits_handles.ensures c.if-awaits_handles.true c.args.file.0
+    (c.is_only_about.ensures c.if-not-is_only_about.false) in
+    rw (← c.self.view_is)
+    (in_vain_now (the_view c.self.inside) c.self.inside.summaries c.args.file.0 c.args.client.0 (request_like c.args.ask)
+    c.self.invariant.0 refl (rw (← c.self.view_is) at has))

@@ -14,6 +14,7 @@ invariant_of-self-2 c =
     c.in_ok-push.ensures.more in (
       c.self.invariant.0,
       known_held _ _ _ c.args.file.0 _ c.self.inside.waiting (held_more _ _ c.args.file.0 c.args.one changed) c.self.invariant.1,
+      c.self.invariant.2,
     )
 
 pub invariant_of-self : goal.invariant_of-self
@@ -21,4 +22,5 @@ invariant_of-self c =
     let same = unchanged c.self.inside.queues c.push.new.self c.in_err-push.ensures.refused in (
       c.self.invariant.0,
       known_same _ _ _ c.self.inside.waiting same c.self.invariant.1,
+      c.self.invariant.2,
     )

@@ -13,4 +13,4 @@ returns c =
     c.in_ok-files.ensures (rw c.deref.ensures.value at c.leave_queues.ensures)))
 
 pub invariant_of-self : goal.invariant_of-self
-invariant_of-self c = (c.self.invariant.0, λ file. none_counted _ _ _ _ (c.clear.ensures file))
+invariant_of-self c = (c.self.invariant.0, λ file. none_counted _ _ _ _ (c.clear.ensures file), c.self.invariant.2)

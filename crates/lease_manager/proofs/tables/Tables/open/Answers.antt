@@ -2,6 +2,8 @@ use Rattle.lease_laws.proofs.Words.{Open, ap, refl, subst, sym}
 use Rattle.lease_manager.specs.Kept.{AreKept}
 use Rattle.lease_manager.specs.Leases.{lease_of}
 use Rattle.lease_manager.specs.contracts.tables.Tables.{the_view}
+use Rattle.lease_manager.specs.Summaries.{lease_in}
+use Rattle.lease_manager.proofs.waits.Awaiting.{empty_settled, opened_settled}
 use Rattle.lease_manager.proofs.waits.Counted.{kept_empty}
 use Rattle.lease_manager.proofs.waits.Settled.{known_settled, settled_opened}
 use Rattle.lease_manager.proofs.waits.StillWaiting.{none_counted}
@@ -29,6 +31,10 @@ invariant_of-self c = (
       c.self.inside.opens c.add.new.opens c.args.one (lease_of c.args.lease) _ _ c.in-Ok.ensures.opens
       c.in-Ok.ensures.leases (rw (← c.self.view_is) at c.requires.home)
       c.forget_for.ensures) c.self.invariant.1,
+  opened_settled c.self.inside.settled c.opens_settled-settled.result c.self.inside.opens c.add.new.opens c.args.one
+      (lease_of c.args.lease) (lease_in c.self.inside.summaries) (lease_in c.add.new.summaries) c.in-Ok.ensures.opens
+      c.requires.here c.in-Ok.ensures.leases
+      (λ yes. (c.opens_settled-settled.ensures.known yes, c.opens_settled-settled.ensures.none yes)) c.self.invariant.2,
 )
 
 pub returns-in-Ok-clause-changed : goal.returns-in-Ok-clause-changed
@@ -42,4 +48,5 @@ pub invariant_of-self-in-Err : goal.invariant_of-self-in-Err
 invariant_of-self-in-Err c = (
   kept_empty _ _ _ c.forget_opens.ensures.opens c.forget_opens.ensures.agrees,
   λ file. none_counted _ _ _ _ (c.clear.ensures file),
+  empty_settled c.self.inside.settled _ (lease_in c.forget_opens.new.summaries) c.forget_opens.ensures.opens,
 )

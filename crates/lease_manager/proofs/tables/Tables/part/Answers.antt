@@ -4,6 +4,8 @@ use Rattle.lease_manager.specs.contracts.tables.Tables.{the_view}
 use Rattle.lease_manager.proofs.opens.Parting.{part_now}
 use Rattle.lease_manager.proofs.opens.Tabling.{kept_left, kept_mapped, same_id_where}
 use Rattle.lease_manager.proofs.sums.Mapping.{connection_kept}
+use Rattle.lease_manager.specs.Summaries.{lease_in}
+use Rattle.lease_manager.proofs.waits.Awaiting.{empty_settled, parted_settled}
 use Rattle.lease_manager.proofs.waits.Counted.{kept_empty}
 use Rattle.lease_manager.proofs.waits.StillWaiting.{none_counted}
 use Rattle.lease_manager.proofs.tables.Tables.part.Goals as goal
@@ -24,10 +26,15 @@ invariant_of-self c = (
       c.self.inside.last_id c.self.invariant.0 (c.close_all.ensures c.self.invariant.0.agree))
       (connection_kept _ false) (same_id_where _ false)),
   λ file. none_counted _ _ _ _ (c.clear.ensures file),
+  parted_settled c.self.inside.settled c.self.inside.opens c.close_all.new.opens c.disconnect_all.new.opens _ c.args.named.now
+      c.in_ok-left.left.items c.self.inside.summaries c.close_all.new.summaries c.in_ok-ended.ensures.in_order
+      (rw c.deref.ensures.value at (c.close_all.ensures c.self.invariant.0.agree)) c.in_ok-left.ensures.ids
+      (rw c.deref-2.ensures.value at c.in-Ok.ensures) c.self.invariant.2,
 )
 
 pub invariant_of-self-in-Err-1 : goal.invariant_of-self-in-Err-1
 invariant_of-self-in-Err-1 c = (
   kept_empty _ _ _ c.forget_opens.ensures.opens c.forget_opens.ensures.agrees,
   λ file. none_counted _ _ _ _ (c.clear.ensures file),
+  empty_settled c.self.inside.settled _ (lease_in c.forget_opens.new.summaries) c.forget_opens.ensures.opens,
 )

@@ -18,4 +18,5 @@ invariant_of-self c =
       c.self.invariant.0,
       known_released _ _ _ c.args.file.0 _ c.self.inside.waiting c.forget.new.self (held_changed _ _ c.args.file.0 _ changed)
           c.forget.ensures c.self.invariant.1,
+      c.self.invariant.2,
     )

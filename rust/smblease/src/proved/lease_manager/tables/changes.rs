@@ -25,9 +25,13 @@ impl Tables {
     /// `Memory` where there is none left for the file's summary; no open is left then.
     pub fn put_lease(&mut self, key: LeaseName, lease: HeldLease) -> Result<(), Memory> {
         let alloc = self.alloc();
+        let settled = keeps_settled(self.settled, &self.opens, &self.summaries, alloc, key, lease);
         forget_home(&mut self.waiting, &self.summaries, key);
         match self.summaries.put(key, lease) {
-            Ok(()) => Ok(()),
+            Ok(()) => {
+                self.settled = settled;
+                Ok(())
+            }
             Err(memory) => {
                 self.waiting.clear();
                 forget_opens(&mut self.opens, &mut self.summaries, alloc);
@@ -124,10 +128,14 @@ impl Tables {
     /// `Memory` where there is none left; no open is left then.
     pub fn open(&mut self, one: OpenEntry, lease: HeldLease) -> Result<(), Memory> {
         let alloc = self.alloc();
+        let settled = opens_settled(self.settled, &self.opens, &self.summaries, alloc, &one, lease);
         forget_for(&mut self.waiting, &self.queues, &one);
         self.last_id = one.file_id.0;
         match add(&mut self.opens, &mut self.summaries, alloc, one, lease) {
-            Ok(()) => Ok(()),
+            Ok(()) => {
+                self.settled = settled;
+                Ok(())
+            }
             Err(memory) => {
                 self.waiting.clear();
                 forget_opens(&mut self.opens, &mut self.summaries, alloc);
@@ -197,6 +205,29 @@ fn forget_queues(queues: &mut Queues, files: &[FileNo], client: ClientNo) {
 fn leave_queues(queues: &mut Queues, files: &[FileNo], client: ClientNo, tags: &[Tag]) {
     for file in files {
         queues.leave(*file, client, tags);
+    }
+}
+
+// Whether it stays known that no open of a lease that is breaking is left to be closed, where the lease of the key becomes
+// this one.
+fn keeps_settled(known: bool, opens: &Opens, summaries: &Summaries, alloc: Global, key: LeaseName, lease: HeldLease) -> bool {
+    if !known {
+        return false;
+    }
+    if !lease.is_breaking() {
+        return true;
+    }
+    match opens.closed(alloc, &Closing::LeftOf(key), summaries) {
+        Ok(left) => left.is_empty(),
+        Err(_) => false,
+    }
+}
+
+// The same where an open comes, the lease of whose key becomes this one.
+fn opens_settled(known: bool, opens: &Opens, summaries: &Summaries, alloc: Global, one: &OpenEntry, lease: HeldLease) -> bool {
+    match one.key() {
+        Some(key) => keeps_settled(known, opens, summaries, alloc, key, lease),
+        None => known,
     }
 }
 

@@ -23,6 +23,8 @@ pub struct FileSummary {
     pub writers: BTreeSet<LeaseName>,
     /// Those of the keys whose leases hold `HANDLE_CACHING`.
     pub handlers: BTreeSet<LeaseName>,
+    /// Those of these whose leases are breaking.
+    pub breaking: BTreeSet<LeaseName>,
     /// Those of the keys whose leases hinder no write under another key: they hold nothing, or are
     /// breaking to nothing. Few do, so these are kept, and not the others.
     pub harmless: BTreeSet<LeaseName>,
@@ -37,6 +39,7 @@ impl FileSummary {
             keyless: 0,
             writers: BTreeSet::new(alloc),
             handlers: BTreeSet::new(alloc),
+            breaking: BTreeSet::new(alloc),
             harmless: BTreeSet::new(alloc),
         }
     }
@@ -82,6 +85,7 @@ impl FileSummary {
             self.keys.remove(&key);
             self.writers.remove(&key);
             self.handlers.remove(&key);
+            self.breaking.remove(&key);
             self.harmless.remove(&key);
         }
     }
@@ -94,6 +98,7 @@ impl FileSummary {
     pub fn mark(&mut self, key: LeaseName, marks: LeaseMarks) -> Result<(), Memory> {
         set_member(&mut self.writers, key, marks.writes)?;
         set_member(&mut self.handlers, key, marks.handles)?;
+        set_member(&mut self.breaking, key, marks.breaks)?;
         set_member(&mut self.harmless, key, marks.harmless)?;
         Ok(())
     }
@@ -141,6 +146,11 @@ impl FileSummary {
     // Whether the key is on the file, and its lease hinders writes.
     fn is_hindering(&self, key: LeaseName) -> bool {
         self.keys.contains(&key) && !self.harmless.contains(&key)
+    }
+
+    /// Whether each of the leases that hold `HANDLE_CACHING` is breaking.
+    pub fn are_handlers_breaking(&self) -> bool {
+        self.handlers.len() == self.breaking.len()
     }
 
     /// The keys among which are all whose leases can be wanted.

@@ -9,6 +9,8 @@ pub struct LeaseMarks {
     pub writes: bool,
     /// It holds `HANDLE_CACHING`.
     pub handles: bool,
+    /// It holds `HANDLE_CACHING`, and is breaking.
+    pub breaks: bool,
     /// It hinders no write under another key.
     pub harmless: bool,
 }
@@ -19,6 +21,7 @@ impl LeaseMarks {
         LeaseMarks {
             writes: lease.state.caches_writes(),
             handles: lease.state.caches_handles(),
+            breaks: lease.state.caches_handles() && lease.is_breaking(),
             harmless: !hinders_writes(lease),
         }
     }

@@ -11,9 +11,9 @@ use crate::proved::lease_manager::values::closing::Closing;
 use crate::proved::lease_manager::values::key::LeaseName;
 use crate::proved::lease_manager::values::number::{ClientNo, FileNo};
 use crate::proved::lease_manager::values::open::OpenEntry;
-use crate::proved::lease_manager::values::request::{Ask, key_asked};
-use crate::proved::lease_manager::values::want::Want;
-use crate::proved::lease_state::{FileId, Memory};
+use crate::proved::lease_manager::values::request::{Ask, CreateAsk, key_asked};
+use crate::proved::lease_manager::values::want::{Want, Wish};
+use crate::proved::lease_state::{Access, FileId, Memory, Share};
 
 impl Tables {
     /// How many requests at the front of the file's queue are known to wait still.
@@ -49,6 +49,9 @@ impl Tables {
         if !self.is_only_about(file, client, ask) {
             return Ok(false);
         }
+        if self.awaits_handles(client, ask) {
+            return Ok(true);
+        }
         match self.finding(client, ask)? {
             Finding::Fails(_) | Finding::Ready => Ok(false),
             Finding::Needs(wants) => {
@@ -70,6 +73,43 @@ impl Tables {
             },
             Ask::Read { .. } | Ask::Close { .. } => false,
         }
+    }
+
+    // Whether it is a create that handles of other keys are in the way of, where all that are on the file are being given up.
+    // So an acknowledgment of one break of many takes no look at the others.
+    fn awaits_handles(&self, client: ClientNo, ask: Ask) -> bool {
+        match ask {
+            Ask::Create { file, access, share, ask } => self.create_awaits_handles(client, file, access, share, ask),
+            Ask::Read { .. } | Ask::Write { .. } | Ask::Close { .. } => false,
+        }
+    }
+
+    fn create_awaits_handles(&self, client: ClientNo, file: FileNo, access: Access, share: Share, ask: CreateAsk) -> bool {
+        if !self.has_file(file) {
+            return false;
+        }
+        match ask.reconnect {
+            Some(_) => false,
+            None => self.are_handles_awaited(key_asked(client, ask.lease), file, access, share),
+        }
+    }
+
+    // Whether handles of other keys are in the way of a create, and all that are on the file are being given up.
+    fn are_handles_awaited(&self, own: Option<LeaseName>, file: FileNo, access: Access, share: Share) -> bool {
+        if !self.are_handles_going(file) {
+            return false;
+        }
+        self.is_any_wanted(Wish::NoHandles { access, share }, own, file)
+    }
+
+    // Whether each lease on the file that holds `HANDLE_CACHING` is breaking, and no open of such a lease is left to be closed.
+    fn are_handles_going(&self, file: FileNo) -> bool {
+        // The invariant, which says what is known of opens that are left, is known of what is looked at.
+        let _ = &self.summaries;
+        if !self.settled {
+            return false;
+        }
+        self.summaries.are_handlers_breaking(file)
     }
 
     // Whether a request that can't be answered has to wait for some of its wants, and all of them are

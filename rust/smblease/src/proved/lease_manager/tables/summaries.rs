@@ -224,6 +224,14 @@ impl Summaries {
         }
     }
 
+    /// Whether each lease on the file that holds `HANDLE_CACHING` is breaking.
+    pub fn are_handlers_breaking(&self, file: FileNo) -> bool {
+        match self.files.get(&file) {
+            Some(summary) => summary.are_handlers_breaking(),
+            None => true,
+        }
+    }
+
     /// The keys whose leases are wanted, in the order in which these are broken.
     ///
     /// # Errors

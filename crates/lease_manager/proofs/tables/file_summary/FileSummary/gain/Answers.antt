@@ -13,6 +13,8 @@ returns-in_ok-gain_key-in-Some c =
       writers = λ other. rw (has_key_own c.args.one.now c.in-Some.key other own) (c.in_ok-gain_key-in-Some.ensures.writers other);
       handlers = λ other.
           rw (has_key_own c.args.one.now c.in-Some.key other own) (c.in_ok-gain_key-in-Some.ensures.handlers other);
+      breaking = λ other.
+          rw (has_key_own c.args.one.now c.in-Some.key other own) (c.in_ok-gain_key-in-Some.ensures.breaking other);
       harmless = λ other.
           rw (has_key_own c.args.one.now c.in-Some.key other own) (c.in_ok-gain_key-in-Some.ensures.harmless other);
     }

@@ -12,5 +12,6 @@ returns-in-Some c =
       keys = λ other. rw (has_key_own c.args.one.now c.in-Some.key other own) (c.lose_key.ensures.keys other);
       writers = λ other. rw (has_key_own c.args.one.now c.in-Some.key other own) (c.lose_key.ensures.writers other);
       handlers = λ other. rw (has_key_own c.args.one.now c.in-Some.key other own) (c.lose_key.ensures.handlers other);
+      breaking = λ other. rw (has_key_own c.args.one.now c.in-Some.key other own) (c.lose_key.ensures.breaking other);
       harmless = λ other. rw (has_key_own c.args.one.now c.in-Some.key other own) (c.lose_key.ensures.harmless other);
     }

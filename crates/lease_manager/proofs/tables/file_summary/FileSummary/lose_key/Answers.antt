@@ -23,9 +23,16 @@ returns-then-last-clause-handlers c = λ other.
     let yes = c.if-last.true in
     grind (arith, now, same, yes)
 
+pub returns-then-last-clause-breaking : goal.returns-then-last-clause-breaking
+returns-then-last-clause-breaking c = λ other.
+    let now = c.remove-then-last-3.ensures.updates.0 other in
+    let same = order_eq-back c.args.key other in
+    let yes = c.if-last.true in
+    grind (arith, now, same, yes)
+
 pub returns-then-last-clause-harmless : goal.returns-then-last-clause-harmless
 returns-then-last-clause-harmless c = λ other.
-    let now = c.remove-then-last-3.ensures.updates.0 other in
+    let now = c.remove-then-last-4.ensures.updates.0 other in
     let same = order_eq-back c.args.key other in
     let yes = c.if-last.true in
     grind (arith, now, same, yes)

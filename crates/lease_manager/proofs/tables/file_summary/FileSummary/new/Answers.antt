@@ -11,5 +11,6 @@ returns c = λ file opens leases none.
       keyless = sym (none_counted _ opens (none_both (is_on file) (λ one. not (is_some one.lease_key)) opens none));
       writers = λ key. rw (c.new-2.ensures.empty, none_both (is_on file) (has_key key) opens none) refl;
       handlers = λ key. rw (c.new-3.ensures.empty, none_both (is_on file) (has_key key) opens none) refl;
-      harmless = λ key. rw (c.new-4.ensures.empty, none_both (is_on file) (has_key key) opens none) refl;
+      breaking = λ key. rw (c.new-4.ensures.empty, none_both (is_on file) (has_key key) opens none) refl;
+      harmless = λ key. rw (c.new-5.ensures.empty, none_both (is_on file) (has_key key) opens none) refl;
     }
