@@ -38,6 +38,7 @@ fn weight(decision: &Decision) -> u64 {
         Decision::Acknowledged { client, state, .. } => joined(client, joined(u64::from(state), 6)),
         Decision::NotAcknowledged { client, .. } => joined(client, 7),
         Decision::Ended { fid } => joined(fid, 8),
+        Decision::LeftBehind { fid } => joined(fid, 9),
     }
 }
 
@@ -158,6 +159,17 @@ fn leases(stage: &mut Stage, size: u64, want: u8) {
     }
 }
 
+fn many_opens(stage: &mut Stage, size: u64) {
+    (0..size).for_each(|number| stage.ask(1, create(number + 1, leased(key(number), 3, true))));
+}
+
+fn end_by_timer(stage: &mut Stage, lost: ClientNo, other: ClientNo, file: u64, last: u64) {
+    stage.ask(lost, create(file, leased(key(0), 7, false)));
+    stage.ask(other, create(file, PLAIN));
+    stage.expire(lost, key(0));
+    stage.ask(other, Ask::Close { fid: last + 2 });
+}
+
 const CONFLICTING: Ask = Ask::Create { file: 1, access: Access::Write, share: Share::ReadWrite, ask: PLAIN };
 
 fn family(name: &str, size: u64) -> Option<Stage> {
@@ -181,6 +193,39 @@ fn family(name: &str, size: u64) -> Option<Stage> {
             stage.ask(1, create(1, leased(key(0), 7, false)));
             (0..size).for_each(|_| stage.ask(2, create(1, PLAIN)));
             stage.expire(1, key(0));
+        }
+        "cut-beside" => {
+            many_opens(&mut stage, size);
+            for number in 0..size {
+                stage.ask(2, create(number + 1, PLAIN));
+                stage.reconnect(2);
+            }
+        }
+        "expired-beside" => {
+            many_opens(&mut stage, size);
+            for number in 0..size {
+                end_by_timer(&mut stage, 2, 3, size + 1, size + 2 * number);
+                stage.reconnect(2);
+            }
+        }
+        "waiting" => {
+            stage.ask(1, create(1, leased(key(0), 7, false)));
+            (0..size).for_each(|_| stage.ask(2, create(1, PLAIN)));
+            for number in 0..size {
+                stage.ask(3, create(2, PLAIN));
+                stage.ask(3, Ask::Close { fid: number + 2 });
+                stage.reconnect(3);
+            }
+        }
+        "expired-clients" => {
+            for number in 0..size {
+                stage.reconnect(number + 4);
+                end_by_timer(&mut stage, number + 4, 2, 1, 2 * number);
+            }
+            for _ in 0..size {
+                stage.ask(3, create(1, leased(key(0), 7, false)));
+                stage.reconnect(3);
+            }
         }
         "cut" => {
             (0..size).for_each(|number| stage.ask(1, create(number + 1, leased(key(number), 7, number % 2 == 0))));

@@ -25,6 +25,7 @@ enum Decision {
     Acknowledged { client: ClientNo, key: [u8; 16], state: u8 },
     NotAcknowledged { client: ClientNo, status: Status },
     Ended { fid: u64 },
+    LeftBehind { fid: u64 },
 }
 
 struct Held { client: ClientNo, tag: u64, ask: Ask }
@@ -311,7 +312,7 @@ impl Manager {
             self.tables.close(fid);
             told.push(Decision::Ended { fid });
         }
-        self.tables.disconnect(client);
+        told.extend(self.tables.disconnect(client).into_iter().map(|fid| Decision::LeftBehind { fid }));
         for held in self.queues.values_mut() {
             held.retain(|one| one.client != client);
         }
@@ -347,10 +348,13 @@ impl Tables {
 
     fn of_key(&self, key: Key) -> Vec<u64> { self.opens.values().filter(|one| one.has(key)).map(|one| one.fid).collect() }
 
-    fn disconnect(&mut self, client: ClientNo) {
-        for one in self.opens.values_mut().filter(|one| one.client == client) {
+    fn disconnect(&mut self, client: ClientNo) -> Vec<u64> {
+        let mut fids = Vec::new();
+        for one in self.opens.values_mut().filter(|one| one.client == client && one.connected) {
             one.connected = false;
             self.left.entry((client, one.file)).or_default().insert(one.fid);
+            fids.push(one.fid);
         }
+        fids
     }
 }

@@ -106,18 +106,14 @@ def replay_cut(count: int) -> str:
     return text(lines + ["cut 1", "notice 1", "connect 1"])
 
 
-# Why families are above their limit. Whoever mends one takes it out here.
-OPENS_LOOKED_THROUGH = "each expiry looks through all opens"
-
-
-def limited(name: str, make: Callable[[int], str], unit: str, facts: dict[str, int], above: str = "", smallest: int = 128) -> Family:
-    """A family whose exponent is to be at most 1.15; `above` says why it is above."""
-    return Family(name, name.split("-")[0], make, smallest, unit, most_exponent=1.15, facts=facts, above=above)
+def limited(name: str, make: Callable[[int], str], unit: str, facts: dict[str, int], smallest: int = 128) -> Family:
+    """A family whose exponent is to be at most 1.15."""
+    return Family(name, name.split("-")[0], make, smallest, unit, most_exponent=1.15, facts=facts)
 
 
 SERVERS = [
     limited("server-acknowledged", server_acknowledged, "lease", {"sent 1 break": 1, "sent 1 ackdone": 1}),
-    limited("server-expired", server_expired, "lease", {"sent 1 break": 1}, OPENS_LOOKED_THROUGH),
+    limited("server-expired", server_expired, "lease", {"sent 1 break": 1}),
     limited("server-conflicts", server_conflicts, "create", {"sent 2 createfailed 1 STATUS_SHARING_VIOLATION": 1}),
     limited("server-released", server_released, "create", {"opened 1 2": 1}),
     limited("server-cut", server_cut, "open", {"opened 1 1": 1}),

@@ -28,6 +28,14 @@ pub enum Family {
     Released,
     /// A client with n opens loses its connection, and connects again.
     Cut,
+    /// Beside n opens of another client one with a single open is cut n times.
+    CutBeside,
+    /// Beside n opens of another client a timer runs out n times.
+    ExpiredBeside,
+    /// n creates of a client wait while another opens, closes and is cut n times.
+    Waiting,
+    /// The timers of n clients run out, who don't come back; then another one comes n times.
+    ExpiredClients,
 }
 
 impl Family {
@@ -39,6 +47,10 @@ impl Family {
             "conflicts" => Some(Family::Conflicts),
             "released" => Some(Family::Released),
             "cut" => Some(Family::Cut),
+            "cut-beside" => Some(Family::CutBeside),
+            "expired-beside" => Some(Family::ExpiredBeside),
+            "waiting" => Some(Family::Waiting),
+            "expired-clients" => Some(Family::ExpiredClients),
             _ => None,
         }
     }
@@ -52,6 +64,10 @@ pub fn play(stage: &mut Stage, family: Family, size: u64) -> Result<(), Memory> 
         Family::Conflicts => conflicts(stage, size),
         Family::Released => released(stage, size),
         Family::Cut => cut(stage, size),
+        Family::CutBeside => cut_beside(stage, size),
+        Family::ExpiredBeside => expired_beside(stage, size),
+        Family::Waiting => waiting(stage, size),
+        Family::ExpiredClients => expired_clients(stage, size),
     }
 }
 
@@ -116,6 +132,68 @@ fn cut(stage: &mut Stage, size: u64) -> Result<(), Memory> {
     stage.reconnect(client(1))?;
     for number in 0..size {
         stage.read(client(1), FileId(number.wrapping_add(1)))?;
+    }
+    Ok(())
+}
+
+// The first client has n opens that last, each on a file of its own.
+fn many_opens(stage: &mut Stage, size: u64) -> Result<(), Memory> {
+    for number in 0..size {
+        let ask = leased(key(number), state(READS_HANDLES), true);
+        stage.open(client(1), FileNo(number.wrapping_add(1)), ask)?;
+    }
+    Ok(())
+}
+
+fn cut_beside(stage: &mut Stage, size: u64) -> Result<(), Memory> {
+    many_opens(stage, size)?;
+    for number in 0..size {
+        stage.open(client(2), FileNo(number.wrapping_add(1)), plain())?;
+        stage.reconnect(client(2))?;
+    }
+    Ok(())
+}
+
+// The lease of a client ends by its timer, for which the create of another one waits: its FileId is so much above the last one.
+fn end_by_timer(stage: &mut Stage, lost: u64, other: u64, file: FileNo, last: u64) -> Result<(), Memory> {
+    stage.open(client(lost), file, leased(key(0), state(ALL), false))?;
+    stage.open(client(other), file, plain())?;
+    stage.expire(client(lost), key(0))?;
+    stage.close(client(other), FileId(last.wrapping_add(2)))
+}
+
+fn expired_beside(stage: &mut Stage, size: u64) -> Result<(), Memory> {
+    many_opens(stage, size)?;
+    let file = FileNo(size.wrapping_add(1));
+    for number in 0..size {
+        end_by_timer(stage, 2, 3, file, size.wrapping_add(number.wrapping_mul(2)))?;
+        stage.reconnect(client(2))?;
+    }
+    Ok(())
+}
+
+fn waiting(stage: &mut Stage, size: u64) -> Result<(), Memory> {
+    stage.open(client(1), FILE, leased(key(0), state(ALL), false))?;
+    for _number in 0..size {
+        stage.open(client(2), FILE, plain())?;
+    }
+    for number in 0..size {
+        stage.open(client(3), FileNo(2), plain())?;
+        stage.close(client(3), FileId(number.wrapping_add(2)))?;
+        stage.reconnect(client(3))?;
+    }
+    Ok(())
+}
+
+fn expired_clients(stage: &mut Stage, size: u64) -> Result<(), Memory> {
+    for number in 0..size {
+        let lost = number.wrapping_add(CLIENTS).wrapping_add(1);
+        stage.reconnect(client(lost))?;
+        end_by_timer(stage, lost, 2, FILE, number.wrapping_mul(2))?;
+    }
+    for _number in 0..size {
+        stage.open(client(3), FILE, leased(key(0), state(ALL), false))?;
+        stage.reconnect(client(3))?;
     }
     Ok(())
 }
