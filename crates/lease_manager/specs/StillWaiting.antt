@@ -13,11 +13,15 @@ use Rattle.lease_model.specs.server.Ready.{is_ready, waits_for}
 use Rattle.lease_model.specs.server.State.{Server, Open, Lease, Held, has_key, is_breaking}
 use Rattle.lease_model.specs.server.Wants.{Want}
 use Rattle.lease_model.specs.values.Keys.{Key}
+<<<<<<< ours
 use Rattle.lease_state.specs.declared.access.Access.{Access}
 use Rattle.lease_state.specs.declared.access.Share.{Share}
 use Rattle.lease_model.specs.server.Naming.{lease_of_open}
 use Rattle.lease_manager.specs.Wishes.{is_wanted}
 use Rattle.lease_manager.specs.declared.values.want.Wish.TheVariants.{NoHandles}
+=======
+use Rattle.manager_model.specs.Handling.{Tagged}
+>>>>>>> theirs
 use Rattle.lease_manager.specs.OneFile.{on_file, local, IsOnlyAbout, asks_with}
 use Rattle.lease_laws.specs.server.Laws.{Among}
 use Rattle.lease_manager.specs.Summaries.{file_order, is_on}
@@ -132,6 +136,11 @@ abbrev pub HaveForgotten : (Open → Bool) → List Open → Waiting → Waiting
 HaveForgotten test opens before after = (file : ℕ) → (count_in after file ≡ 0)
     ⊎ ((count_in after file ≡ count_in before file)
     × ((one : Open) → Among one opens → is_on file one ≡ true → test one ≡ false))
+
+-- the same where requests go: a queue that loses one is forgotten
+abbrev pub HaveForgottenQueues : (ℕ → List Tagged) → (ℕ → List Tagged) → Waiting → Waiting → Type 0
+HaveForgottenQueues queues left before after = (file : ℕ) → (count_in after file ≡ 0)
+    ⊎ ((count_in after file ≡ count_in before file) × (left file ≡ queues file))
 
 -- the same where an open comes, under whose key no create of another file is held
 abbrev pub HaveForgottenFor : Open → (ℕ → List Held) → Waiting → Waiting → Type 0

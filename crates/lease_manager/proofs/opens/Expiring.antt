@@ -1,5 +1,5 @@
 -- The keys whose timer ran out, as one more does, and as their client joins.
-use Rattle.lease_laws.proofs.Words.{◌==◌, ◌||◌, ◌∙◌, ◌∷◌, ◌≡◌, Bool, Key, Less, List, None, Option, Server, Some, ℕ, [], ap, ap₂}
+use Rattle.lease_laws.proofs.Words.{◌==◌, ◌||◌, ◌∙◌, ◌∷◌, ◌≡◌, Bool, Key, List, Server, ℕ, [], ap, ap₂}
 use Rattle.lease_laws.proofs.Words.{arith, bytes_eq, bytes_eq-Decides, cond, false, fun_ext, if◌then◌else◌, is_eq, key_eq}
 use Rattle.lease_laws.proofs.Words.{list_any, map, nat_cmp, nat_tests, put_key, refl, sym, true}
 use Rattle.std.specs.BTreeMap.{is_at}
@@ -8,7 +8,7 @@ use Rattle.std.specs.Cmp.Lexicographic.{slice_cmp}
 use Rattle.std.specs.Map.{lookup}
 use Rattle.std.specs.Ordering.{on}
 use Rattle.std.specs.declared.cmp.Ordering.{Ordering}
-use Rattle.std.specs.declared.cmp.Ordering.TheVariants.{Equal, Greater}
+use Rattle.std.specs.declared.cmp.Ordering.TheVariants.{Equal}
 use Rattle.lease_laws.proofs.server.Lists.{either}
 use Rattle.lease_state.specs.declared.key.LeaseKey.{LeaseKey}
 use Rattle.lease_manager.specs.Expired.{ran_out}

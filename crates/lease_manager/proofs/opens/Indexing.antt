@@ -1,13 +1,13 @@
 -- FileIds of opens under keys, as opens come, go, are left and are connected again.
-use Rattle.lease_laws.proofs.Words.{◌&&◌, ◌++◌, ◌<◌, ◌==◌, ◌∙◌, ◌∷◌, ◌≡◌, Among, AreInOrder, Bool, Decides-eqb, FileId, Key, List}
-use Rattle.lease_laws.proofs.Words.{None, Open, Some, ℕ, [], ap, ap₂, arith, false, filter, find, has_key, if◌then◌else◌, inl, inr}
-use Rattle.lease_laws.proofs.Words.{key_eq, key_of_open, map, nat_cmp, nat_tests, refl, subst, sym, true, without}
+use Rattle.lease_laws.proofs.Words.{◌++◌, ◌<◌, ◌∙◌, ◌∷◌, ◌≡◌, Among, AreInOrder, Bool, Decides-eqb, FileId, Key, List}
+use Rattle.lease_laws.proofs.Words.{None, Open, Some, ℕ, [], ap, ap₂, arith, false, filter, find, has_key, if◌then◌else◌, inl}
+use Rattle.lease_laws.proofs.Words.{inr, key_of_open, map, nat_cmp, nat_tests, refl, subst, sym, true, without}
 use Rattle.std.specs.BTreeMap.{is_at}
 use Rattle.std.specs.BTreeSet.{insert_key}
 use Rattle.std.specs.Prelude.{Err, Ok, OnErr, Result}
 use Rattle.std.specs.Set.{remove_key}
 use Rattle.std.specs.declared.cmp.Ordering.{Ordering}
-use Rattle.lease_laws.proofs.server.Lists.{either, among_filter, clash, find_has}
+use Rattle.lease_laws.proofs.server.Lists.{either, among_filter, find_has}
 use Rattle.lease_manager.specs.Filed.{connected_at, file_id_order, has_id}
 use Rattle.lease_manager.specs.Sets.{values_at}
 use Rattle.lease_manager.specs.KeyOrder.{key_order}
@@ -140,8 +140,8 @@ pub none_indexed : {K : Type 0} (order : K → K → Ordering) (test : K → Ope
     → ((key : K) → values_at order ids key ≡ []) → AreIndexed order test ids []
 none_indexed order test ids none = λ key. rw (none key) refl
 
-pub gained : {K : Type 0} (order : K → K → Ordering) (test : K → Open → Bool) (old new : Sets K FileId) (key : K) (fid : FileId)
-    (opens : List Open) (one : Open) → IsLast one opens → fid.0 ≡ one.file_id
+pub gained : {K : Type 0} (order : K → K → Ordering) (test : K → Open → Bool) (old new : Sets K FileId) (key : K)
+    (fid : FileId) (opens : List Open) (one : Open) → IsLast one opens → fid.0 ≡ one.file_id
     → ((other : K) → test other one ≡ is_at (order key) other)
     → ((other : K) → values_at order new other
     ≡ (if is_at (order key) other then insert_key file_id_order (values_at order old other) fid else values_at order old other))
@@ -167,8 +167,9 @@ renumbered order old new key other n m is changed =
     subst (λ k. values_at order new other ≡ (if is_at (order key) other then remove_key (test_at k) (values_at order old other)
     else values_at order old other)) is changed
 
-pub lost : {K : Type 0} (order : K → K → Ordering) (test : K → Open → Bool) (old new : Sets K FileId) (key : K) (fid : FileId)
-    (opens : List Open) (one : Open) → fid.0 ≡ one.file_id → AreInOrder opens → find (has_id one.file_id) opens ≡ Some one
+pub lost : {K : Type 0} (order : K → K → Ordering) (test : K → Open → Bool) (old new : Sets K FileId) (key : K)
+    (fid : FileId) (opens : List Open) (one : Open) → fid.0 ≡ one.file_id → AreInOrder opens
+    → find (has_id one.file_id) opens ≡ Some one
     → ((other : K) → is_at (order key) other ≡ false → test other one ≡ false)
     → ((other : K) → values_at order new other
     ≡ (if is_at (order key) other then remove_key (test_at fid.0) (values_at order old other) else values_at order old other))
@@ -182,15 +183,16 @@ lost order test old new key fid opens one is rises found fails changed indexed =
     (λ at. rw (after, at) (indexed other ∙ (ap ids_of (sym (none_passes n (test other) opens one rises found
     (fails other at))) ∙ ap ids_of (sym (filter_without n (test other) opens)))))
 
-pub lost_nowhere : {K : Type 0} (order : K → K → Ordering) (test : K → Open → Bool) (ids : Sets K FileId) (n : ℕ) (opens : List Open)
-    (one : Open) → AreInOrder opens → find (has_id n) opens ≡ Some one → ((other : K) → test other one ≡ false)
-    → AreIndexed order test ids opens → AreIndexed order test ids (without (has_id n) opens)
+pub lost_nowhere : {K : Type 0} (order : K → K → Ordering) (test : K → Open → Bool) (ids : Sets K FileId) (n : ℕ)
+    (opens : List Open) (one : Open) → AreInOrder opens → find (has_id n) opens ≡ Some one
+    → ((other : K) → test other one ≡ false) → AreIndexed order test ids opens
+    → AreIndexed order test ids (without (has_id n) opens)
 lost_nowhere order test ids n opens one rises found fails indexed = λ other.
     indexed other ∙ (ap ids_of (sym (none_passes n (test other) opens one rises found (fails other)))
     ∙ ap ids_of (sym (filter_without n (test other) opens)))
 
-pub turned_on : {K : Type 0} (order : K → K → Ordering) (test : K → Open → Bool) (old new : Sets K FileId) (key : K) (fid : FileId)
-    (connected : Bool) (opens : List Open) (one : Open) → fid.0 ≡ one.file_id → AreInOrder opens
+pub turned_on : {K : Type 0} (order : K → K → Ordering) (test : K → Open → Bool) (old new : Sets K FileId) (key : K)
+    (fid : FileId) (connected : Bool) (opens : List Open) (one : Open) → fid.0 ≡ one.file_id → AreInOrder opens
     → find (has_id one.file_id) opens ≡ Some one
     → ((other : K) → is_at (order key) other ≡ true → test other (now connected one) ≡ true)
     → ((other : K) → is_at (order key) other ≡ false → test other (now connected one) ≡ test other one)
@@ -205,8 +207,8 @@ turned_on order test old new key fid connected opens one is rises found passes a
     (λ at. rw (changed other, at) (indexed other
     ∙ sym (turned_alike one.file_id connected (test other) opens one rises found (alike other at))))
 
-pub turned_off : {K : Type 0} (order : K → K → Ordering) (test : K → Open → Bool) (old new : Sets K FileId) (key : K) (fid : FileId)
-    (connected : Bool) (opens : List Open) (one : Open) → fid.0 ≡ one.file_id → AreInOrder opens
+pub turned_off : {K : Type 0} (order : K → K → Ordering) (test : K → Open → Bool) (old new : Sets K FileId) (key : K)
+    (fid : FileId) (connected : Bool) (opens : List Open) (one : Open) → fid.0 ≡ one.file_id → AreInOrder opens
     → find (has_id one.file_id) opens ≡ Some one
     → ((other : K) → is_at (order key) other ≡ true → test other (now connected one) ≡ false)
     → ((other : K) → is_at (order key) other ≡ false → test other (now connected one) ≡ test other one)
@@ -223,8 +225,8 @@ turned_off order test old new key fid connected opens one is rises found fails a
     (λ at. rw (after, at) (indexed other
     ∙ sym (turned_alike n connected (test other) opens one rises found (alike other at))))
 
-pub turned_nowhere : {K : Type 0} (order : K → K → Ordering) (test : K → Open → Bool) (ids : Sets K FileId) (n : ℕ) (connected : Bool)
-    (opens : List Open) (one : Open) → AreInOrder opens → find (has_id n) opens ≡ Some one
+pub turned_nowhere : {K : Type 0} (order : K → K → Ordering) (test : K → Open → Bool) (ids : Sets K FileId) (n : ℕ)
+    (connected : Bool) (opens : List Open) (one : Open) → AreInOrder opens → find (has_id n) opens ≡ Some one
     → ((other : K) → test other (now connected one) ≡ test other one)
     → AreIndexed order test ids opens → AreIndexed order test ids (map (connected_at n connected) opens)
 turned_nowhere order test ids n connected opens one rises found alike indexed = λ other.

@@ -1,10 +1,8 @@
 -- A client that joins: its connection is listed, and its keys are taken off the expired ones.
-use Rattle.lease_laws.proofs.Words.{◌==◌, ◌||◌, ◌∷◌, ◌≡◌, Bool, Key, List, Progress, Server, ℕ, [], ap₂, is_at, nat_cmp, refl}
+use Rattle.lease_laws.proofs.Words.{◌==◌, ◌||◌, ◌∷◌, ◌≡◌, Bool, Key, List, Progress, Server, ℕ, [], ap₂, is_at, refl}
 use Rattle.std.specs.BTreeSet.{BTreeSet, Updates, contains}
-use Rattle.std.specs.declared.cmp.Ordering.{Ordering}
-use Rattle.std.specs.Ordering.{on}
-use Rattle.lease_laws.proofs.Words.{arith, false, filter, fun_ext, if◌then◌else◌, joined, key_eq, list_any}
-use Rattle.lease_laws.proofs.Words.{nat_tests, not, put, true}
+use Rattle.lease_laws.proofs.Words.{arith, false, fun_ext, if◌then◌else◌, joined, list_any}
+use Rattle.lease_laws.proofs.Words.{nat_tests, put, true}
 use Rattle.lease_manager.specs.declared.values.number.ClientNo.{ClientNo}
 use Rattle.lease_manager.specs.OpenIndex.{client_order}
 use Rattle.lease_manager.specs.Outs.{progress_of}

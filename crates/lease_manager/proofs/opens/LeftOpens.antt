@@ -1,16 +1,16 @@
 -- FileIds of opens, rising, and what is asked of the opens that wait for their clients.
-use Rattle.lease_laws.proofs.Words.{◌&&◌, ◌++◌, ◌<◌, ◌==◌, ◌∙◌, ◌∷◌, ◌≡◌, Among, AreInOrder, Bool, Decides-eqb, FileId, Key, Less}
+use Rattle.lease_laws.proofs.Words.{◌<◌, ◌==◌, ◌∙◌, ◌∷◌, ◌≡◌, Among, AreInOrder, Bool, Decides-eqb, FileId, Key, Less}
 use Rattle.lease_laws.proofs.Words.{List, None, Open, Option, Some, ℕ, [], ap, ap₂, arith, drop, false, filter, find}
-use Rattle.lease_laws.proofs.Words.{get_or, has_key, if◌then◌else◌, inl, inr, is_key, is_left_open, length, list_any, map}
+use Rattle.lease_laws.proofs.Words.{get_or, has_key, inl, inr, is_key, is_left_open, length, list_any}
 use Rattle.lease_laws.proofs.Words.{nat_cmp, nat_tests, option_map, refl, subst, sym, true, true≢false, without}
 use Rattle.std.specs.BTreeSet.{insert_key}
 use Rattle.std.specs.List.{slice_get}
 use Rattle.std.specs.Set.{remove_key}
 use Rattle.std.specs.declared.cmp.Ordering.{Ordering}
 use Rattle.std.specs.declared.cmp.Ordering.TheVariants.{Equal, Greater}
-use Rattle.lease_laws.proofs.server.Lists.{either, among_filter, find_has, none_has, not_true}
-use Rattle.lease_manager.proofs.opens.Filing.{test_at, at_id, none_behind, some_same, none_changed, greater}
-use Rattle.lease_manager.specs.Filed.{has_id, connected_at, file_id_order}
+use Rattle.lease_laws.proofs.server.Lists.{either, none_has, not_true}
+use Rattle.lease_manager.proofs.opens.Filing.{test_at, at_id, none_behind}
+use Rattle.lease_manager.specs.Filed.{has_id, file_id_order}
 use Rattle.lease_manager.specs.LeftOpens.{found_has, has_key_in, ids_of, numbers}
 use Rattle.lease_manager.specs.Looks.{is_elsewhere, is_left_by}
 

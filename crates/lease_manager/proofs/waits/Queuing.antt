@@ -12,12 +12,14 @@ use Rattle.lease_manager.specs.Laws.{FirstIsOfHosts}
 use Rattle.lease_manager.specs.OneFile.{asks_with}
 use Rattle.std.specs.Map.{lookup}
 use Rattle.lease_laws.proofs.server.Lists.{among_filter, among_filtered, either}
-use Rattle.manager_model.specs.Handling.{Manager, Tagged, held_in, is_of, last_file}
+use Rattle.manager_model.specs.Handling.{Manager, Tagged, held_in, is_left, is_of, last_file}
 use Rattle.manager_model.specs.Hosting.{fresh_manager}
 use Rattle.lease_manager.specs.Queues.{all_without, file_numbers, filed, is_file, queue_in, waiting_or_none}
 use Rattle.lease_manager.specs.Summaries.{file_order}
 use Rattle.lease_manager.specs.Table.{Queue, Table, client_gone, held_at, is_among, manager_of, queue_at, requeued, server_of, requests_gone}
+use Rattle.lease_manager.specs.StillWaiting.{AreCounted, HaveForgottenQueues, count_in}
 use Rattle.lease_manager.proofs.waits.Counted.{IsQueuePut, Known}
+use Rattle.lease_manager.proofs.waits.StillWaiting.{none_counted}
 use Rattle.lease_manager.specs.declared.tables.waiting.Waiting.{Waiting}
 use Rattle.lease_manager.specs.declared.tables.queues.Queues.{Queues}
 use Rattle.lease_manager.specs.declared.values.number.ClientNo.{ClientNo}
@@ -362,6 +364,55 @@ forgotten_in before after files test are gone = queues_are after ∙ (sym gone
     (λ none. inr (ap (without test) (sym (queue_filed before n) ∙ none)
     ∙ sym (sym (queue_filed before n) ∙ none))) (key_or_empty before.by_file.entries n)))
     ∙ ap (λ (q : ℕ → List Tagged). λ file. without test (q file)) (sym (queues_are before))))
+
+-- a queue that loses none is as it was
+loses_none : (test : Tagged → Bool) (queue : List Tagged) → list_any test queue ≡ false → without test queue ≡ queue
+loses_none test [] none = refl
+loses_none test (one ∷ queue) none = either (test one)
+    (λ t. absurd (cc (rw t at none)))
+    (λ t. rw t (ap (λ l. one ∷ l) (loses_none test queue (rw t at none))))
+
+pub none_lost : (test : Tagged → Bool) (queues : ℕ → List Tagged) (file : ℕ) → list_any test (queues file) ≡ false
+    → (other : ℕ) → queues other ≡ (if other == file then without test (queues file) else queues other)
+none_lost test queues file none other = either (other == file)
+    (λ its. rw its (ap queues ((Decides-eqb other file).0 its) ∙ sym (loses_none test (queues file) none)))
+    (λ off. rw off refl)
+
+pub none_of_client : (client : ℕ) (tags : List ℕ) (queue : List Tagged) → list_any (is_of client) queue ≡ false
+    → list_any (is_left client tags) queue ≡ false
+none_of_client client tags [] none = refl
+none_of_client client tags (one ∷ queue) none = either (is_of client one)
+    (λ its. absurd (cc (rw its at none)))
+    (λ its. rw its (none_of_client client tags queue (rw its at none)))
+
+pub forgotten_queue : (file : ℕ) (queue : List Tagged) (queues left : ℕ → List Tagged) (before after : Waiting)
+    → ((other : ℕ) → left other ≡ (if other == file then queue else queues other))
+    → ((other : ℕ) → count_in after other ≡ (if other == file then 0 else count_in before other))
+    → HaveForgottenQueues queues left before after
+forgotten_queue file queue queues left before after changed put = λ other. either (other == file)
+    (λ its. inl (put other ∙ ap (λ b. if b then 0 else count_in before other) its))
+    (λ off. inr (
+      put other ∙ ap (λ b. if b then 0 else count_in before other) off,
+      changed other ∙ ap (λ b. if b then queue else queues other) off,
+    ))
+
+pub forgotten_twice : (queues middle left : ℕ → List Tagged) (before during after : Waiting)
+    → HaveForgottenQueues queues middle before during → HaveForgottenQueues middle left during after
+    → HaveForgottenQueues queues left before after
+forgotten_twice queues middle left before during after first last = λ file. ⊎_elim
+    (λ none. inl none)
+    (λ same. ⊎_elim
+    (λ none. inl (same.0 ∙ none))
+    (λ was. inr (same.0 ∙ was.0, same.1 ∙ was.1)) (first file)) (last file)
+
+pub known_left : (server : Server) (before after : Queues) (waiting now : Waiting)
+    → HaveForgottenQueues (queue_in before) (queue_in after) waiting now
+    → Known server (held_at (filed before)) waiting → Known server (held_at (filed after)) now
+known_left server before after waiting now forgotten known = λ file. ⊎_elim
+    (λ none. none_counted server file (held_at (filed after) file) (count_in now file) none)
+    (λ same. subst (λ q. AreCounted server file (held_in q) (count_in now file))
+    (sym (queue_filed after file ∙ (same.1 ∙ sym (queue_filed before file))))
+    (subst (AreCounted server file (held_at (filed before) file)) (sym same.0) (known file))) (forgotten file)
 
 abbrev with_clients : Server → (ℕ → List Tagged) → (ℕ → Bool) → Manager
 with_clients server queues present = record {

@@ -9,7 +9,9 @@ use Rattle.lease_laws.proofs.Words.{take}
 use Rattle.std.specs.List.{slice_get}
 use Rattle.lease_laws.proofs.server.Keys.{key_eq-same}
 use Rattle.lease_laws.proofs.server.Lists.{either, clash, and_both, not_true, any_has, none_has, has_none, find_has, among_filter}
-use Rattle.lease_manager.specs.Kept.{HaveClosed, is_one_of}
+use Rattle.lease_laws.proofs.Words.{FileId, filter, map}
+use Rattle.lease_manager.specs.Kept.{HaveClosed, disconnected_where, is_one_of}
+use Rattle.lease_manager.specs.LeftOpens.{numbers}
 use Rattle.lease_manager.specs.Looks.{is_elsewhere}
 use Rattle.lease_manager.specs.OneFile.{on_file, local, IsOnlyAbout, own_asked, asks_with}
 use Rattle.lease_manager.specs.StillWaiting.{HasOnlyToWait, deciding, count_in, AreCounted, HaveForgotten, HaveForgottenFor}
@@ -141,6 +143,128 @@ settled_closed queues waiting now rules count opens left ids summaries after clo
           (about_left file (is_one_of ids) rules count opens (lease_in summaries) (lease_in after) one.client one.request
           same.1 about),
     )) (forgotten file)
+
+-- opens that are disconnected, none of them on the file
+on_kept : (file : ℕ) (test : Open → Bool) (opens : List Open)
+    → ((one : Open) → Among one opens → is_on file one ≡ true → test one ≡ false)
+    → on_file file (map (disconnected_where test) opens) ≡ on_file file opens
+on_kept file test [] none = refl
+on_kept file test (one ∷ opens) none =
+    let later = on_kept file test opens (λ other a. none other (inr a)) in either (is_on file one)
+    (λ on. rw (none one (inl refl) on, on) (ap (λ l. one ∷ l) later))
+    (λ off. rw (off_still file test one off, off) later)
+  where
+    off_still : (file : ℕ) (test : Open → Bool) (one : Open) → is_on file one ≡ false
+        → is_on file (disconnected_where test one) ≡ false
+    off_still file test one off = either (test one) (λ t. rw t off) (λ t. rw t off)
+
+abbrev by_id : ℕ → ℕ → Open → Bool
+by_id file_id client one = one.file_id == file_id && one.client == client && one.connected
+
+found_kept : (file_id client : ℕ) (test : Open → Bool) (opens : List Open) (one : Open)
+    → find (by_id file_id client) opens ≡ Some one → test one ≡ false
+    → find (by_id file_id client) (map (disconnected_where test) opens) ≡ Some one
+found_kept file_id client test [] one found spared = absurd (cc found)
+found_kept file_id client test (x ∷ opens) one found spared = either (by_id file_id client x)
+    (λ t.
+    let is = some_same x one (rw t at found) in
+    let here : test x ≡ false = ap test is ∙ spared in
+    rw (here, t) (ap Some is))
+    (λ t. rw (still_not file_id client test x t) (found_kept file_id client test opens one (rw t at found) spared))
+  where
+    away : (a b : Bool) → (a && b && false) ≡ false
+    away a b = grind arith
+
+    still_not : (file_id client : ℕ) (test : Open → Bool) (x : Open) → by_id file_id client x ≡ false
+        → by_id file_id client (disconnected_where test x) ≡ false
+    still_not file_id client test x t = either (test x)
+        (λ d. rw d (away (x.file_id == file_id) (x.client == client)))
+        (λ d. rw d t)
+
+elsewhere_kept : (key : Key) (file : ℕ) (test : Open → Bool) (opens : List Open)
+    → list_any (λ one. has_key key one && not (one.file == file)) (map (disconnected_where test) opens)
+    ≡ list_any (λ one. has_key key one && not (one.file == file)) opens
+elsewhere_kept key file test [] = refl
+elsewhere_kept key file test (one ∷ opens) = let later = elsewhere_kept key file test opens in either (test one)
+    (λ t. rw (t, later) refl)
+    (λ t. rw (t, later) refl)
+
+about_kept : (file : ℕ) (test : Open → Bool) (rules : Rules) (count : ℕ) (opens : List Open) (leases : Key → Lease)
+    (client : ℕ)
+    (request : FileRequest) → ((one : Open) → Among one opens → is_on file one ≡ true → test one ≡ false)
+    → IsOnlyAbout (deciding rules count opens leases) file client request
+    → IsOnlyAbout (deciding rules count (map (disconnected_where test) opens) leases) file client request
+about_kept file test rules count opens leases client (FileRequest.Create other access share None) none about = absurd about
+about_kept file test rules count opens leases client (FileRequest.Create other access share (Some ask)) none about =
+    (about.0, away (own_key client ask.lease) about.1)
+  where
+    away : (own : Option Key) → is_leased_elsewhere (deciding rules count opens leases) own file ≡ false
+        → is_leased_elsewhere (deciding rules count (map (disconnected_where test) opens) leases) own file ≡ false
+    away None e = refl
+    away (Some key) e = elsewhere_kept key file test opens ∙ e
+about_kept file test rules count opens leases client (FileRequest.Read file_id) none about = absurd about
+about_kept file test rules count opens leases client (FileRequest.Write file_id number patch) none about =
+    go (find (by_id file_id client) opens) refl about
+  where
+    go : (found : Option Open) → find (by_id file_id client) opens ≡ found
+        → option_map (λ one. one.file) found ≡ Some file
+        → option_map (λ one. one.file) (find (by_id file_id client) (map (disconnected_where test) opens)) ≡ Some file
+    go None is there = absurd (cc there)
+    go (Some one) is there =
+        let among = (find_has (by_id file_id client) one opens is).0 in
+        let stays = none one among ((Decides-eqb one.file file).1 (some_same one.file file there)) in
+        ap (option_map (λ x. x.file)) (found_kept file_id client test opens one is stays) ∙ there
+about_kept file test rules count opens leases client (FileRequest.Close file_id) none about = absurd about
+
+-- A file's count is forgotten, or none of these opens is on it.
+abbrev pub AreElsewhere : List ℕ → List Open → Waiting → Type 0
+AreElsewhere ids opens waiting = (file : ℕ) → (count_in waiting file ≡ 0)
+    ⊎ ((one : Open) → Among one opens → is_on file one ≡ true → is_one_of ids one ≡ false)
+
+pub settled_disconnected : (queues : ℕ → List Held) (waiting : Waiting) (rules : Rules) (count : ℕ) (opens now : List Open)
+    (ids : List ℕ) (leases : Key → Lease) → now ≡ map (disconnected_where (is_one_of ids)) opens
+    → AreElsewhere ids opens waiting
+    → IsSettled queues waiting waiting (deciding rules count opens leases) (deciding rules count now leases)
+settled_disconnected queues waiting rules count opens now ids leases is elsewhere = λ file. ⊎_elim
+    (λ none. inl none)
+    (λ apart.
+    let kept : on_file file now ≡ on_file file opens =
+    ap (on_file file) is ∙ on_kept file (is_one_of ids) opens apart in
+    inr (
+      refl,
+      ap (λ os. deciding rules count os (λ key. if list_any (has_key key) os then leases key else no_lease)) kept,
+      λ one a about. subst (λ os. IsOnlyAbout (deciding rules count os leases) file one.client one.request) (sym is)
+          (about_kept file (is_one_of ids) rules count opens leases one.client one.request apart about),
+    )) (elsewhere file)
+
+-- of some FileIds none is the open's where it is none of them all
+fewer : (pick : FileId → Bool) (named : List FileId) (one : Open) → is_one_of (numbers named) one ≡ false
+    → is_one_of (numbers (filter pick named)) one ≡ false
+fewer pick [] one none = refl
+fewer pick (fid ∷ named) one none = either (one.file_id == fid.0)
+    (λ its. absurd (cc (rw its at none)))
+    (λ its.
+    let later = fewer pick named one (rw its at none) in
+    either (pick fid) (λ t. rw (t, its) later) (λ t. rw t later))
+
+pub forgotten_fewer : (pick : FileId → Bool) (named picked : List FileId) (opens : List Open) (before after : Waiting)
+    → picked ≡ filter pick named → HaveForgotten (is_one_of (numbers named)) opens before after
+    → HaveForgotten (is_one_of (numbers picked)) opens before after
+forgotten_fewer pick named picked opens before after are forgotten = λ file. ⊎_elim
+    (λ none. inl none)
+    (λ same. inr (
+      same.0,
+      λ one a on.
+          ap (λ ids. is_one_of (numbers ids) one) are ∙ fewer pick named one (same.1 one a on),
+    )) (forgotten file)
+
+pub elsewhere_left : (pick : FileId → Bool) (named picked : List FileId) (ended : List ℕ) (opens left : List Open)
+    (before after : Waiting) → picked ≡ filter pick named → left ≡ without (is_one_of ended) opens
+    → HaveForgotten (is_one_of (numbers named)) opens before after → AreElsewhere (numbers picked) left after
+elsewhere_left pick named picked ended opens left before after are is forgotten = λ file. ⊎_elim
+    (λ none. inl none)
+    (λ same. inr (λ one a on. ap (λ ids. is_one_of (numbers ids) one) are ∙ fewer pick named one (same.1 one
+    (among_filter (λ o. not (is_one_of ended o)) one opens (subst (Among one) is a)).0 on))) (forgotten file)
 
 -- an open that comes on another file
 on_more : (file : ℕ) (one : Open) (opens : List Open) → is_on file one ≡ false

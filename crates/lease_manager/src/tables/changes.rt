@@ -16,6 +16,7 @@ ghost use Rattle.lease_manager.specs.Filed.{has_id};
 ghost use Rattle.lease_manager.specs.LeftOpens.{ids_of, numbers};
 ghost use Rattle.lease_manager.specs.Kept.{opened_with, HaveClosed, is_one_of, disconnected_where};
 ghost use Rattle.lease_manager.specs.Leases.{lease_of};
+ghost use Rattle.lease_manager.specs.StillWaiting.{HaveForgottenQueues};
 ghost use Rattle.lease_manager.specs.Summaries.{Agrees, IsAtHome, lease_in};
 ghost use Rattle.lease_manager.specs.Parting.{tag_numbers};
 ghost use Rattle.lease_manager.specs.Queues.{all_without, queue_in};
@@ -27,6 +28,7 @@ use crate::tables::opens::Opens;
 use crate::tables::queues::Queues;
 use crate::tables::still::{forget_files, forget_for, forget_home};
 use crate::tables::summaries::Summaries;
+use crate::tables::waiting::Waiting;
 use crate::values::closing::Closing;
 use crate::values::key::LeaseName;
 use crate::values::lease::HeldLease;
@@ -138,9 +140,8 @@ impl Tables {
     {
         let alloc = self.alloc();
         let files = self.queues.files(alloc)?;
-        self.waiting.clear();
         forget_connection(&mut self.present, client);
-        forget_queues(&mut self.queues, &files, client);
+        forget_queues(&mut self.queues, &mut self.waiting, &files, client);
         Ok(())
     }
 
@@ -155,8 +156,7 @@ impl Tables {
     {
         let alloc = self.alloc();
         let files = self.queues.files(alloc)?;
-        self.waiting.clear();
-        leave_queues(&mut self.queues, &files, client, tags);
+        leave_queues(&mut self.queues, &mut self.waiting, &files, client, tags);
         Ok(())
     }
 
@@ -304,24 +304,45 @@ fn add(
 }
 
 // The requests of the client no longer wait on these files.
-fn forget_queues(queues: &mut Queues, files: &[FileNo], client: ClientNo)
-    ensures { all_without (is_of client.0) (map (λ file. file.0) files.now) (queue_in queues.old) ≡ queue_in queues.new }
+fn forget_queues(queues: &mut Queues, waiting: &mut Waiting, files: &[FileNo], client: ClientNo)
+    ensures gone { all_without (is_of client.0) (map (λ file. file.0) files.now) (queue_in queues.old) ≡ queue_in queues.new }
+    ensures known { HaveForgottenQueues (queue_in queues.old) (queue_in queues.new) waiting.old waiting.new }
 {
     for file in files {
-        queues.forget(*file, client);
+        forget_queue(queues, waiting, *file, client);
+    }
+}
+
+// The same on one file. Where none of them waits, what is known of the others stays.
+fn forget_queue(queues: &mut Queues, waiting: &mut Waiting, file: FileNo, client: ClientNo)
+    ensures gone { (other : ℕ) → queue_in queues.new other
+        ≡ (if other == file.0 then without (is_of client.0) (queue_in queues.old file.0) else queue_in queues.old other) }
+    ensures known { HaveForgottenQueues (queue_in queues.old) (queue_in queues.new) waiting.old waiting.new }
+{
+    if is_any_of(queues.at(file), client) {
+        waiting.forget(file);
+        queues.forget(file, client);
     }
 }
 
 // The requests of the client under these tags no longer wait on these files.
-fn leave_queues(queues: &mut Queues, files: &[FileNo], client: ClientNo, tags: &[Tag])
-    ensures { all_without (is_left client.0 (tag_numbers tags.now)) (map (λ file. file.0) files.now) (queue_in queues.old)
+fn leave_queues(
+    queues: &mut Queues,
+    waiting: &mut Waiting,
+    files: &[FileNo],
+    client: ClientNo,
+    tags: &[Tag],
+)
+    ensures gone { all_without (is_left client.0 (tag_numbers tags.now)) (map (λ file. file.0) files.now) (queue_in queues.old)
         ≡ queue_in queues.new }
+    ensures known { HaveForgottenQueues (queue_in queues.old) (queue_in queues.new) waiting.old waiting.new }
 {
     for file in files {
-        queues.leave(*file, client, tags);
+        leave_queue(queues, waiting, *file, client, tags);
     }
 }
 
+<<<<<<< ours
 // Whether it stays known that no open of a lease that is breaking is left to be closed, where the lease of the key becomes
 // this one.
 fn keeps_settled(
@@ -366,6 +387,31 @@ fn opens_settled(
         Some(key) => keeps_settled(known, opens, summaries, alloc, key, lease),
         None => known,
     }
+=======
+// The same on one file. Where the client has no request, what is known of the others stays.
+fn leave_queue(
+    queues: &mut Queues,
+    waiting: &mut Waiting,
+    file: FileNo,
+    client: ClientNo,
+    tags: &[Tag],
+)
+    ensures gone { (other : ℕ) → queue_in queues.new other ≡ (if other == file.0
+        then without (is_left client.0 (tag_numbers tags.now)) (queue_in queues.old file.0) else queue_in queues.old other) }
+    ensures known { HaveForgottenQueues (queue_in queues.old) (queue_in queues.new) waiting.old waiting.new }
+{
+    if is_any_of(queues.at(file), client) {
+        waiting.forget(file);
+        queues.leave(file, client, tags);
+    }
+}
+
+// Whether a request of the client is among these.
+fn is_any_of(queue: &[Held], client: ClientNo) -> bool
+    ensures { result ≡ list_any (is_of client.0) queue.now }
+{
+    queue.iter().any(|one| one.client == client)
+>>>>>>> theirs
 }
 
 // The client is no longer connected.

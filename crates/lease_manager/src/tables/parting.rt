@@ -8,6 +8,7 @@ ghost use Rattle.lease_model.specs.server.State.{Open};
 use crate::tables::Tables;
 use crate::tables::changes::{close_all, disconnect_all, forget_opens};
 use crate::tables::sets::listed;
+use crate::tables::still::forget_files;
 use crate::values::number::ClientNo;
 use lease_state::{FileId, Memory};
 
@@ -63,11 +64,12 @@ impl Tables {
         let alloc = self.alloc();
         let ended = self.opens.lasting(alloc, named, &self.summaries, false)?;
         let left = self.opens.lasting(alloc, named, &self.summaries, true)?;
-        self.waiting.clear();
+        forget_files(&mut self.waiting, &self.opens, named);
         close_all(&mut self.opens, &mut self.summaries, &ended);
         match disconnect_all(&mut self.opens, alloc, &left) {
             Ok(()) => Ok(Parted { ended, left }),
             Err(memory) => {
+                self.waiting.clear();
                 forget_opens(&mut self.opens, &mut self.summaries, alloc);
                 Err(memory)
             }

@@ -7,7 +7,13 @@ use Rattle.lease_manager.proofs.sums.Mapping.{connection_kept}
 use Rattle.lease_manager.specs.Summaries.{lease_in}
 use Rattle.lease_manager.proofs.waits.Awaiting.{empty_settled, parted_settled}
 use Rattle.lease_manager.proofs.waits.Counted.{kept_empty}
+use Rattle.lease_manager.proofs.waits.Settled.{elsewhere_left, forgotten_fewer, known_settled, settled_closed}
+use Rattle.lease_manager.proofs.waits.Settled.{settled_disconnected}
 use Rattle.lease_manager.proofs.waits.StillWaiting.{none_counted}
+use Rattle.lease_manager.specs.LeftOpens.{numbers}
+use Rattle.lease_manager.specs.Queues.{filed}
+use Rattle.lease_manager.specs.Summaries.{lease_in}
+use Rattle.lease_manager.specs.Table.{held_at}
 use Rattle.lease_manager.proofs.tables.Tables.part.Goals as goal
 
 pub returns-in-Ok-clause-parted : goal.returns-in-Ok-clause-parted
@@ -20,6 +26,7 @@ returns-in-Ok-clause-parted c = λ test are.
     (rw c.deref-2.ensures.value at c.in-Ok.ensures))
 
 pub invariant_of-self : goal.invariant_of-self
+<<<<<<< ours
 invariant_of-self c = (
   rw c.in-Ok.ensures (kept_mapped c.close_all.new.opens (disconnected_where _) c.close_all.new.summaries c.self.inside.last_id
       (kept_left c.self.inside.opens _ c.self.inside.summaries c.close_all.new.summaries c.close_all.new.opens
@@ -31,6 +38,32 @@ invariant_of-self c = (
       (rw c.deref.ensures.value at (c.close_all.ensures c.self.invariant.0.agree)) c.in_ok-left.ensures.ids
       (rw c.deref-2.ensures.value at c.in-Ok.ensures) c.self.invariant.2,
 )
+=======
+invariant_of-self c =
+    let queues = held_at (filed c.self.inside.queues) in
+    let named = c.args.named.now in
+    let left = c.in_ok-left.left.items in
+    let before = c.self.inside.waiting in
+    let after = c.forget_files.new.waiting in
+    let closed = rw c.deref.ensures.value at (c.close_all.ensures c.self.invariant.0.agree) in
+    let kept = rw c.deref-2.ensures.value at c.in-Ok.ensures in (
+      rw c.in-Ok.ensures
+          (kept_mapped c.close_all.new.opens (disconnected_where _) c.close_all.new.summaries c.self.inside.last_id
+          (kept_left c.self.inside.opens _ c.self.inside.summaries c.close_all.new.summaries c.close_all.new.opens
+          c.self.inside.last_id c.self.invariant.0 (c.close_all.ensures c.self.invariant.0.agree))
+          (connection_kept _ false) (same_id_where _ false)),
+      known_settled queues after after _ _
+          (settled_disconnected queues after c.self.inside.rules c.self.inside.files.0 c.close_all.new.opens
+          c.disconnect_all.new.opens (numbers left) (lease_in c.close_all.new.summaries) kept
+          (elsewhere_left _ named left (numbers c.in_ok-ended.ended.items) c.self.inside.opens c.close_all.new.opens before
+          after c.in_ok-left.ensures.ids closed.opens_left c.forget_files.ensures))
+          (known_settled queues before after _ _
+          (settled_closed queues before after c.self.inside.rules c.self.inside.files.0 c.self.inside.opens
+          c.close_all.new.opens (numbers c.in_ok-ended.ended.items) c.self.inside.summaries c.close_all.new.summaries closed
+          (forgotten_fewer _ named c.in_ok-ended.ended.items c.self.inside.opens before after c.in_ok-ended.ensures.ids
+          c.forget_files.ensures)) c.self.invariant.1),
+    )
+>>>>>>> theirs
 
 pub invariant_of-self-in-Err-1 : goal.invariant_of-self-in-Err-1
 invariant_of-self-in-Err-1 c = (
