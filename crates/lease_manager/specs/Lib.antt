@@ -26,6 +26,7 @@ pub mod Parting
 pub mod Passing
 pub mod Questions
 pub mod Queues
+pub mod Remaining
 pub mod Requests
 pub mod Sets
 pub mod StillWaiting

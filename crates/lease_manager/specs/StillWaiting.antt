@@ -16,6 +16,7 @@ use Rattle.lease_model.specs.values.Keys.{Key}
 <<<<<<< ours
 use Rattle.lease_state.specs.declared.access.Access.{Access}
 use Rattle.lease_state.specs.declared.access.Share.{Share}
+use Rattle.lease_model.specs.server.Allowed.{is_other_on}
 use Rattle.lease_model.specs.server.Naming.{lease_of_open}
 use Rattle.lease_manager.specs.Wishes.{is_wanted}
 use Rattle.lease_manager.specs.declared.values.want.Wish.TheVariants.{NoHandles}
@@ -63,9 +64,9 @@ pub record HasOnlyToWait (server : Server) (file : ℕ) (client : ℕ) (request 
   pub found : finding server client request ≡ Finding.Needs wants
   pub waits : OnlyWaits server file request wants
 
--- Each lease on the file that holds H is breaking.
-abbrev pub AreHandlesBreaking : Server → ℕ → Type 0
-AreHandlesBreaking server file = (one : Open) → Among one server.opens → is_on file one ≡ true
+-- Each lease of another key on the file that holds H is breaking.
+abbrev pub AreHandlesBreaking : Server → Option Key → ℕ → Type 0
+AreHandlesBreaking server own file = (one : Open) → Among one server.opens → is_other_on own file one ≡ true
     → (lease_of_open server one).state.handle ≡ true → is_breaking (lease_of_open server one) ≡ true
 
 -- Where it is known: no open of a lease that is breaking is left to be closed.
@@ -73,13 +74,14 @@ abbrev pub AreSettled : Bool → List Open → (Key → Lease) → Type 0
 AreSettled known opens leases = known ≡ true → (key : Key) → is_breaking (leases key) ≡ true
     → list_any (is_left_open key) opens ≡ false
 
-abbrev pub AreHandlesGoing : Server → ℕ → Type 0
-AreHandlesGoing server file = AreHandlesBreaking server file × AreSettled true server.opens server.leases
+-- So no handle of another key can be had at once.
+abbrev pub AreHandlesGoing : Server → Option Key → ℕ → Type 0
+AreHandlesGoing server own file = AreHandlesBreaking server own file × AreSettled true server.opens server.leases
 
--- Handles are in the way of a create, and all that are on its file are being given up.
+-- Handles of other keys are in the way of a create, and all of them on its file are being given up.
 pub record AwaitsHandles (server : Server) (own : Option Key) (file : ℕ) (access : Access) (share : Share) : Type 0 where
   pub wanted : list_any (is_wanted (NoHandles access share) server own file) server.opens ≡ true
-  pub going : AreHandlesGoing server file
+  pub going : AreHandlesGoing server own file
 
 -- ---- what the tables keep
 

@@ -3,7 +3,7 @@ use Rattle.lease_laws.proofs.Words.{◌&&◌, ◌+◌, ◌-◌, ◌∙◌, ◌�
 use Rattle.lease_laws.proofs.Words.{Option, Server, Some, Want, ℕ, [], all_wants, ap, arith, breaks_to_none, false, filter}
 use Rattle.lease_laws.proofs.Words.{has_key, holds_any, if◌then◌else◌, is_at, is_other_on, is_some, keys_of, lease_by}
 use Rattle.lease_laws.proofs.Words.{lease_of_open, length, list_all, list_any, nat_lt, not, nothing_cached, refl, subst, sym}
-use Rattle.lease_laws.proofs.Words.{true, Among}
+use Rattle.lease_laws.proofs.Words.{true}
 use Rattle.std.specs.BTreeSet.{BTreeSet, contains}
 use Rattle.std.specs.List.{AllByRecursion}
 use Rattle.std.specs.List.Sorted.{IsStrictlySortedBy}
@@ -18,6 +18,7 @@ use Rattle.lease_manager.specs.StillWaiting.{AreHandlesBreaking}
 use Rattle.lease_model.specs.server.State.{is_breaking}
 use Rattle.lease_manager.specs.KeyOrder.{key_order}
 use Rattle.lease_manager.specs.Summaries.{StandFor, SumsUp, lease_in, is_on, has_key_on}
+use Rattle.lease_manager.specs.Remaining.{own_remaining, remains}
 use Rattle.lease_manager.specs.Wanted.{is_own_key, is_hindering, own_hindering}
 use Rattle.lease_manager.specs.declared.tables.file_summary.FileSummary.{FileSummary}
 use Rattle.lease_manager.specs.declared.tables.summaries.Summaries.{Summaries}
@@ -53,11 +54,10 @@ filter_sorted test (key ∷ keys) sorted = either (test key)
 abbrev is_marked : FileSummary → Key → Bool
 is_marked summary key = contains key_order summary.harmless key
 
--- the keys whose leases hinder
-abbrev hindering : FileSummary → List Key
-hindering summary = filter (λ key. not (is_marked summary key)) summary.keys.keys
+-- the keys of a set that aren't marked
+abbrev remaining : BTreeSet Key → BTreeSet Key → List Key
+remaining all marked = filter (λ key. not (contains key_order marked key)) all.keys
 
--- of two sets the one within the other
 marked_are : (all marked : BTreeSet Key)
     → ((key : Key) → contains key_order marked key ≡ true → contains key_order all key ≡ true)
     → IsStrictlySortedBy key_order all.keys → IsStrictlySortedBy key_order marked.keys
@@ -69,52 +69,61 @@ marked_are all marked among sorted marks =
     let m = member marked key a in
     among_filtered (contains key_order marked) key all.keys (among_members all key (among key m)) m)
 
--- where it has as many, it has all
-pub as_many : (all marked : BTreeSet Key)
+remaining_counted : (all marked : BTreeSet Key)
     → ((key : Key) → contains key_order marked key ≡ true → contains key_order all key ≡ true)
-    → IsStrictlySortedBy key_order all.keys → IsStrictlySortedBy key_order marked.keys → length all.keys ≡ length marked.keys
-    → (key : Key) → contains key_order all key ≡ true → contains key_order marked key ≡ true
-as_many all marked among sorted marks same key has =
+    → IsStrictlySortedBy key_order all.keys → IsStrictlySortedBy key_order marked.keys
+    → length (remaining all marked) ≡ length all.keys - length marked.keys
+remaining_counted all marked among sorted marks =
     let e = parts_counted (contains key_order marked) all.keys in
     let m = ap (λ (keys : List Key). length keys) (marked_are all marked among sorted marks) in
-    let none : length (filter (λ k. not (contains key_order marked k)) all.keys) ≡ 0 = omega (arith, e, m, same) in
-    not_false (contains key_order marked key) (λ no. nobody key (filter (λ k. not (contains key_order marked k)) all.keys) none
-    (among_filtered (λ k. not (contains key_order marked k)) key all.keys (among_members all key has) (ap not no)))
-  where
-    nobody : (key : Key) (keys : List Key) → length keys ≡ 0 → Among key keys → ⊥
-    nobody key [] none there = there
-    nobody key (x ∷ keys) none there = grind arith
-
-hindering_counted : (summary : FileSummary)
-    → ((key : Key) → is_marked summary key ≡ true → contains key_order summary.keys key ≡ true)
-    → IsStrictlySortedBy key_order summary.keys.keys → IsStrictlySortedBy key_order summary.harmless.keys
-    → length (hindering summary) ≡ length summary.keys.keys - length summary.harmless.keys
-hindering_counted summary among sorted marked =
-    let e = parts_counted (is_marked summary) summary.keys.keys in
-    let m = ap (λ (keys : List Key). length keys) (marked_are summary.keys summary.harmless among sorted marked) in
     omega arith
 
-own_among : (own : Key) (summary : FileSummary) → list_any (is_at (key_order own)) (hindering summary) ≡ is_hindering summary own
-own_among own summary = both_so _ _
+own_among : (own : Key) (all marked : BTreeSet Key)
+    → list_any (is_at (key_order own)) (remaining all marked) ≡ remains all marked own
+own_among own all marked = both_so _ _
     (λ some.
-    let key = any_has (is_at (key_order own)) (hindering summary) some in
+    let key = any_has (is_at (key_order own)) (remaining all marked) some in
     let same = key_eq-same own key.0 (sym (order_eq own key.0) ∙ key.2) in
-    let there = among_filter (λ k. not (is_marked summary k)) key.0 summary.keys.keys key.1 in
-    and_both (contains key_order summary.keys own) (not (is_marked summary own))
-    (subst (λ k. contains key_order summary.keys k ≡ true) (sym same) (member summary.keys key.0 there.0))
-    (subst (λ k. not (is_marked summary k) ≡ true) (sym same) there.1))
-    (λ hinders.
-    let parts = and_parts (contains key_order summary.keys own) (not (is_marked summary own)) hinders in
-    has_any (is_at (key_order own)) own (hindering summary)
-    (among_filtered (λ k. not (is_marked summary k)) own summary.keys.keys (among_members summary.keys own parts.0) parts.1)
+    let there = among_filter (λ k. not (contains key_order marked k)) key.0 all.keys key.1 in
+    and_both (contains key_order all own) (not (contains key_order marked own))
+    (subst (λ k. contains key_order all k ≡ true) (sym same) (member all key.0 there.0))
+    (subst (λ k. not (contains key_order marked k) ≡ true) (sym same) there.1))
+    (λ left.
+    let parts = and_parts (contains key_order all own) (not (contains key_order marked own)) left in
+    has_any (is_at (key_order own)) own (remaining all marked)
+    (among_filtered (λ k. not (contains key_order marked k)) own all.keys (among_members all own parts.0) parts.1)
     (order_eq own own ∙ key_eq-refl own))
 
-others_hinder : (own : Option Key) (summary : FileSummary) → IsStrictlySortedBy key_order (hindering summary)
-    → list_any (λ key. not (is_own_key own key)) (hindering summary)
-    ≡ nat_lt (own_hindering own summary) (length (hindering summary))
-others_hinder None summary sorted = all_counted (hindering summary)
-others_hinder (Some own) summary sorted = others_counted own (hindering summary) sorted
-    ∙ ap (λ (b : Bool). nat_lt (if b then 1 else 0) (length (hindering summary))) (own_among own summary)
+-- whether others than the request's remain is told by their number
+others_remain : (own : Option Key) (all marked : BTreeSet Key)
+    → ((key : Key) → contains key_order marked key ≡ true → contains key_order all key ≡ true)
+    → IsStrictlySortedBy key_order all.keys → IsStrictlySortedBy key_order marked.keys
+    → nat_lt (own_remaining own all marked) (length all.keys - length marked.keys)
+    ≡ list_any (λ key. not (is_own_key own key) && not (contains key_order marked key)) all.keys
+others_remain own all marked among sorted marks =
+    ap (nat_lt (own_remaining own all marked)) (sym (remaining_counted all marked among sorted marks))
+    ∙ (sym (counted own (filter_sorted (λ key. not (contains key_order marked key)) all.keys sorted))
+    ∙ any_filtered (λ key. not (contains key_order marked key)) (λ key. not (is_own_key own key)) all.keys)
+  where
+    counted : (mine : Option Key) → IsStrictlySortedBy key_order (remaining all marked)
+        → list_any (λ key. not (is_own_key mine key)) (remaining all marked)
+        ≡ nat_lt (own_remaining mine all marked) (length (remaining all marked))
+    counted None order = all_counted (remaining all marked)
+    counted (Some key) order = others_counted key (remaining all marked) order
+        ∙ ap (λ (b : Bool). nat_lt (if b then 1 else 0) (length (remaining all marked))) (own_among key all marked)
+
+-- where no more remain than are the request's, each other key is marked
+pub others_marked : (own : Option Key) (all marked : BTreeSet Key)
+    → ((key : Key) → contains key_order marked key ≡ true → contains key_order all key ≡ true)
+    → IsStrictlySortedBy key_order all.keys → IsStrictlySortedBy key_order marked.keys
+    → nat_lt (own_remaining own all marked) (length all.keys - length marked.keys) ≡ false
+    → (key : Key) → not (is_own_key own key) ≡ true → contains key_order all key ≡ true → contains key_order marked key ≡ true
+others_marked own all marked among sorted marks few key other has =
+    let none = none_has (λ k. not (is_own_key own k) && not (contains key_order marked k)) key all.keys
+    (sym (others_remain own all marked among sorted marks) ∙ few) (among_members all key has) in
+    not_false (contains key_order marked key) (λ no.
+    clash (not (is_own_key own key) && not (contains key_order marked key))
+    (and_both (not (is_own_key own key)) (not (contains key_order marked key)) other (ap not no)) none)
 
 -- on the list of keys, each of them is a member
 here_alike : (own : Option Key) (summary : FileSummary)
@@ -143,10 +152,12 @@ others_hindering own file opens leases summary s sorted marked =
     let among : (key : Key) → is_marked summary key ≡ true → contains key_order summary.keys key ≡ true =
     λ key m. s.keys key ∙ (and_parts (list_any (has_key_on file key) opens) (is_harmless (leases key))
     (sym (s.harmless key) ∙ m)).0 in
-    ap (nat_lt (own_hindering own summary)) (sym (hindering_counted summary among sorted marked))
-    ∙ (sym (others_hinder own summary (filter_sorted (λ key. not (is_marked summary key)) summary.keys.keys sorted))
-    ∙ (any_filtered (λ key. not (is_marked summary key)) (λ key. not (is_own_key own key)) summary.keys.keys
-    ∙ here_alike own summary))
+    ap (λ n. nat_lt n (length summary.keys.keys - length summary.harmless.keys)) (mine own)
+    ∙ (others_remain own summary.keys summary.harmless among sorted marked ∙ here_alike own summary)
+  where
+    mine : (one : Option Key) → own_hindering one summary ≡ own_remaining one summary.keys summary.harmless
+    mine None = refl
+    mine (Some key) = refl
 
 -- ---- by summaries
 
@@ -214,26 +225,29 @@ breaking_within file opens leases summary s key has =
     s.handlers key ∙ and_both (list_any (has_key_on file key) opens) (leases key).state.handle parts.0
     (and_parts (leases key).state.handle (is_breaking (leases key)) parts.1).0
 
-handler_keyed : (server : Server) (client : ℕ) (bytes : Option (List ℕ))
+pub handler_keyed : (server : Server) (client : ℕ) (bytes : Option (List ℕ))
     → (lease_by server client bytes).state.handle ≡ true → is_some bytes ≡ true
 handler_keyed server client bytes handles = grind arith
 
-pub handlers_breaking : (file : ℕ) (summaries : Summaries) (server : Server) (summary : FileSummary)
+pub handlers_breaking : (own : Option Key) (file : ℕ) (summaries : Summaries) (server : Server) (summary : FileSummary)
     → StandFor summaries server → SumsUp file server.opens (lease_in summaries) summary
-    → ((key : Key) → contains key_order summary.handlers key ≡ true → contains key_order summary.breaking key ≡ true)
-    → AreHandlesBreaking server file
-handlers_breaking file summaries server summary stand s all = λ one a on handles.
+    → ((key : Key) → not (is_own_key own key) ≡ true → contains key_order summary.handlers key ≡ true
+    → contains key_order summary.breaking key ≡ true) → AreHandlesBreaking server own file
+handlers_breaking own file summaries server summary stand s all = λ one a other handles.
     let key = key_there one.client one.lease_key (handler_keyed server one.client one.lease_key handles) in
-    let used = has_any (has_key_on file key.0) one server.opens a (and_both (is_on file one) (has_key key.0 one) on key.1) in
+    let apart = on_other own file key.0 one other key.1 in
+    let used = has_any (has_key_on file key.0) one server.opens a apart.0 in
     let summed = lease_summed summaries server key.0 one stand key.1 in
     let has = s.handlers key.0 ∙ and_both (list_any (has_key_on file key.0) server.opens) (lease_in summaries key.0).state.handle
     used (ap (λ (l : Lease). l.state.handle) (sym summed) ∙ handles) in
     let parts = and_parts (list_any (has_key_on file key.0) server.opens) (breaks_handle (lease_in summaries key.0))
-    (sym (s.breaking key.0) ∙ all key.0 has) in
+    (sym (s.breaking key.0) ∙ all key.0 apart.1 has) in
     ap is_breaking summed ∙ (and_parts (lease_in summaries key.0).state.handle (is_breaking (lease_in summaries key.0)) parts.1).1
 
-pub none_breaking : (file : ℕ) (server : Server) → list_any (is_on file) server.opens ≡ false → AreHandlesBreaking server file
-none_breaking file server none = λ one a on handles. clash (is_on file one) on (none_has (is_on file) one server.opens none a)
+pub none_breaking : (own : Option Key) (file : ℕ) (server : Server) → list_any (is_on file) server.opens ≡ false
+    → AreHandlesBreaking server own file
+none_breaking own file server none = λ one a other handles.
+    clash (is_on file one) (other_here own file one other) (none_has (is_on file) one server.opens none a)
 
 -- ---- by what the rules want
 

@@ -3,7 +3,7 @@ use Rattle.lease_laws.proofs.Words.{◌&&◌, ◌++◌, ◌∙◌, ◌∷◌, �
 use Rattle.lease_laws.proofs.Words.{FileRequest, Key, Lease, List, None, Open, Option, Server, Share, Some, Want, ℕ, []}
 use Rattle.lease_laws.proofs.Words.{ap, arith, conflicts_on, connected_again, false, filter, finding, handle_wants, has_file}
 use Rattle.lease_laws.proofs.Words.{has_key, if◌then◌else◌, is_breaking, is_empty, is_key, is_leased_elsewhere, is_left_open}
-use Rattle.lease_laws.proofs.Words.{is_other_on, is_some, key_eq, key_under, keys_of, lease_by, lease_of_open, list_any}
+use Rattle.lease_laws.proofs.Words.{is_other_on, key_eq, key_under, keys_of, lease_of_open, list_any}
 use Rattle.lease_laws.proofs.Words.{map, no_lease, not, own_key, refl, subst, sym, true, without_handle}
 use Rattle.lease_model.specs.messages.Requests.{CreateAsk}
 use Rattle.lease_laws.proofs.server.Goes.{one_id}
@@ -25,6 +25,7 @@ use Rattle.lease_manager.specs.declared.tables.summaries.Summaries.{Summaries}
 use Rattle.lease_manager.specs.declared.values.want.Wish.TheVariants.{NoHandles}
 use Rattle.lease_manager.proofs.opens.Parting.{found_is}
 use Rattle.lease_manager.proofs.sums.Demanding.{key_there, other_here}
+use Rattle.lease_manager.proofs.sums.Hindering.{handler_keyed}
 use Rattle.lease_manager.proofs.waits.OneFile.{none_within}
 use Rattle.lease_manager.proofs.waits.Settled.{any_more}
 
@@ -141,16 +142,13 @@ parted_settled known opens middle now ended named left summaries after order clo
 -- an open by which a key is wanted
 wanted_on : (server : Server) (own : Option Key) (file : ℕ) (access : Access) (share : Share) (one : Open)
     → is_wanted (NoHandles access share) server own file one ≡ true
-    → (is_on file one ≡ true) × (conflicts_on file access share one ≡ true) × ((lease_of_open server one).state.handle ≡ true)
+    → (is_other_on own file one ≡ true) × (conflicts_on file access share one ≡ true)
+    × ((lease_of_open server one).state.handle ≡ true)
 wanted_on server own file access share one w =
     let a = and_parts (conflicts_on file access share one && is_other_on own file one) (lease_of_open server one).state.handle
     w in
     let b = and_parts (conflicts_on file access share one) (is_other_on own file one) a.0 in
-    (other_here own file one b.1, b.0, a.1)
-
-handler_keyed : (server : Server) (client : ℕ) (bytes : Option (List ℕ))
-    → (lease_by server client bytes).state.handle ≡ true → is_some bytes ≡ true
-handler_keyed server client bytes handles = grind arith
+    (b.1, b.0, a.1)
 
 some_there : (want : Want) (wants : List Want) → Among want wants → is_empty wants ≡ false
 some_there want [] there = absurd there
@@ -176,7 +174,7 @@ wants_under_way server own file access share awaits want a =
     (and_both (not (list_any (is_left_open key.0) server.opens)) (list_any (has_key key.0) (on_file file server.opens))
     (ap not left)
     (has_any (has_key key.0) found.0 (on_file file server.opens)
-    (among_filtered (is_on file) found.0 server.opens there.0 on.0) found.2))
+    (among_filtered (is_on file) found.0 server.opens there.0 (other_here own file found.0 on.0)) found.2))
 
 pub awaits_handles : (server : Server) (file client : ℕ) (access : Access) (share : Share) (ask : CreateAsk)
     → ask.reconnect ≡ None → has_file server file ≡ true → is_leased_elsewhere server (own_key client ask.lease) file ≡ false

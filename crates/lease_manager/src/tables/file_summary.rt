@@ -5,6 +5,7 @@ ghost use Rattle.lease_model.specs.server.State.{Open, Lease};
 ghost use Rattle.lease_model.specs.values.Keys.{Key, key_eq};
 ghost use Rattle.std.specs.BTreeSet.{contains};
 ghost use Rattle.lease_manager.specs.KeyOrder.{key_order};
+ghost use Rattle.lease_manager.specs.Remaining.{own_remaining, remains};
 ghost use Rattle.lease_manager.specs.Wanted.{is_own_key, is_hindering, keys_for, own_count, own_hindering};
 ghost use Rattle.lease_manager.specs.Summaries.{SumsUp, Gains, Loses, IsMarked, is_on};
 
@@ -191,13 +192,14 @@ impl FileSummary {
         self.keys.contains(&key) && !self.harmless.contains(&key)
     }
 
-    /// Whether each of the leases that hold `HANDLE_CACHING` is breaking.
-    pub fn are_handlers_breaking(&self) -> bool
+    /// Whether each of the leases of other keys than the request's that hold `HANDLE_CACHING` is breaking.
+    pub fn are_handlers_breaking(&self, own: Option<LeaseName>) -> bool
         ensures { (file : ℕ) (opens : List Open) (leases : Key → Lease) → SumsUp file opens leases self.now
-            → result ≡ true → (key : Key) → contains key_order self.now.handlers key ≡ true
-            → contains key_order self.now.breaking key ≡ true }
+            → result ≡ true → (key : Key) → not (is_own_key own key) ≡ true
+            → contains key_order self.now.handlers key ≡ true → contains key_order self.now.breaking key ≡ true }
     {
-        self.handlers.len() == self.breaking.len()
+        let unbroken = self.handlers.len().saturating_sub(self.breaking.len());
+        unbroken <= own_remaining(own, &self.handlers, &self.breaking)
     }
 
     /// The keys among which are all whose leases can be wanted.
@@ -210,6 +212,26 @@ impl FileSummary {
             Wish::Nothing => &self.keys,
         }
     }
+}
+
+// How many of the keys that aren't marked are the request's.
+fn own_remaining(
+    own: Option<LeaseName>,
+    keys: &BTreeSet<LeaseName>,
+    marked: &BTreeSet<LeaseName>,
+) -> usize
+    ensures { result ≡ own_remaining own keys.now marked.now }
+{
+    match own {
+        Some(key) => { if remains(keys, marked, key) { 1 } else { 0 } }
+        None => 0,
+    }
+}
+
+fn remains(keys: &BTreeSet<LeaseName>, marked: &BTreeSet<LeaseName>, key: LeaseName) -> bool
+    ensures { result ≡ remains keys.now marked.now key }
+{
+    keys.contains(&key) && !marked.contains(&key)
 }
 
 // The key is one of the keys, or isn't.

@@ -348,12 +348,12 @@ impl Summaries {
         }
     }
 
-    /// Whether each lease on the file that holds `HANDLE_CACHING` is breaking.
-    pub fn are_handlers_breaking(&self, file: FileNo) -> bool
-        ensures { (server : Server) → StandFor self.now server → result ≡ true → AreHandlesBreaking server file.0 }
+    /// Whether each lease of another key on the file that holds `HANDLE_CACHING` is breaking.
+    pub fn are_handlers_breaking(&self, own: Option<LeaseName>, file: FileNo) -> bool
+        ensures { (server : Server) → StandFor self.now server → result ≡ true → AreHandlesBreaking server own file.0 }
     {
         match self.files.get(&file) {
-            Some(summary) => summary.are_handlers_breaking(),
+            Some(summary) => summary.are_handlers_breaking(own),
             None => true,
         }
     }

@@ -148,9 +148,10 @@ impl FileSummary {
         self.keys.contains(&key) && !self.harmless.contains(&key)
     }
 
-    /// Whether each of the leases that hold `HANDLE_CACHING` is breaking.
-    pub fn are_handlers_breaking(&self) -> bool {
-        self.handlers.len() == self.breaking.len()
+    /// Whether each of the leases of other keys than the request's that hold `HANDLE_CACHING` is breaking.
+    pub fn are_handlers_breaking(&self, own: Option<LeaseName>) -> bool {
+        let unbroken = self.handlers.len().saturating_sub(self.breaking.len());
+        unbroken <= own_remaining(own, &self.handlers, &self.breaking)
     }
 
     /// The keys among which are all whose leases can be wanted.
@@ -161,6 +162,24 @@ impl FileSummary {
             Wish::Nothing => &self.keys,
         }
     }
+}
+
+// How many of the keys that aren't marked are the request's.
+fn own_remaining(own: Option<LeaseName>, keys: &BTreeSet<LeaseName>, marked: &BTreeSet<LeaseName>) -> usize {
+    match own {
+        Some(key) => {
+            if remains(keys, marked, key) {
+                1
+            } else {
+                0
+            }
+        }
+        None => 0,
+    }
+}
+
+fn remains(keys: &BTreeSet<LeaseName>, marked: &BTreeSet<LeaseName>, key: LeaseName) -> bool {
+    keys.contains(&key) && !marked.contains(&key)
 }
 
 // The key is one of the keys, or isn't.

@@ -75,7 +75,7 @@ impl Tables {
         }
     }
 
-    // Whether it is a create that handles of other keys are in the way of, where all that are on the file are being given up.
+    // Whether it is a create that handles of other keys are in the way of, where all of them on its file are being given up.
     // So an acknowledgment of one break of many takes no look at the others.
     fn awaits_handles(&self, client: ClientNo, ask: Ask) -> bool {
         match ask {
@@ -94,22 +94,25 @@ impl Tables {
         }
     }
 
-    // Whether handles of other keys are in the way of a create, and all that are on the file are being given up.
+    // Whether handles of other keys are in the way of a create, and all of them on the file are being given up.
     fn are_handles_awaited(&self, own: Option<LeaseName>, file: FileNo, access: Access, share: Share) -> bool {
-        if !self.are_handles_going(file) {
+        // Each call is given a copy of its own, for the borrow checker.
+        let key = own;
+        if !self.are_handles_going(own, file) {
             return false;
         }
-        self.is_any_wanted(Wish::NoHandles { access, share }, own, file)
+        self.is_any_wanted(Wish::NoHandles { access, share }, key, file)
     }
 
-    // Whether each lease on the file that holds `HANDLE_CACHING` is breaking, and no open of such a lease is left to be closed.
-    fn are_handles_going(&self, file: FileNo) -> bool {
+    // Whether each lease of another key on the file that holds `HANDLE_CACHING` is breaking, and no open of such a lease is
+    // left to be closed.
+    fn are_handles_going(&self, own: Option<LeaseName>, file: FileNo) -> bool {
         // The invariant, which says what is known of opens that are left, is known of what is looked at.
         let _ = &self.summaries;
         if !self.settled {
             return false;
         }
-        self.summaries.are_handlers_breaking(file)
+        self.summaries.are_handlers_breaking(own, file)
     }
 
     // Whether a request that can't be answered has to wait for some of its wants, and all of them are

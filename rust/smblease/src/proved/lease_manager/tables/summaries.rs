@@ -224,10 +224,10 @@ impl Summaries {
         }
     }
 
-    /// Whether each lease on the file that holds `HANDLE_CACHING` is breaking.
-    pub fn are_handlers_breaking(&self, file: FileNo) -> bool {
+    /// Whether each lease of another key on the file that holds `HANDLE_CACHING` is breaking.
+    pub fn are_handlers_breaking(&self, own: Option<LeaseName>, file: FileNo) -> bool {
         match self.files.get(&file) {
-            Some(summary) => summary.are_handlers_breaking(),
+            Some(summary) => summary.are_handlers_breaking(own),
             None => true,
         }
     }
