@@ -13,16 +13,13 @@ use Rattle.lease_model.specs.server.Ready.{is_ready, waits_for}
 use Rattle.lease_model.specs.server.State.{Server, Open, Lease, Held, has_key, is_breaking}
 use Rattle.lease_model.specs.server.Wants.{Want}
 use Rattle.lease_model.specs.values.Keys.{Key}
-<<<<<<< ours
 use Rattle.lease_state.specs.declared.access.Access.{Access}
 use Rattle.lease_state.specs.declared.access.Share.{Share}
 use Rattle.lease_model.specs.server.Allowed.{is_other_on}
 use Rattle.lease_model.specs.server.Naming.{lease_of_open}
 use Rattle.lease_manager.specs.Wishes.{is_wanted}
 use Rattle.lease_manager.specs.declared.values.want.Wish.TheVariants.{NoHandles}
-=======
 use Rattle.manager_model.specs.Handling.{Tagged}
->>>>>>> theirs
 use Rattle.lease_manager.specs.OneFile.{on_file, local, IsOnlyAbout, asks_with}
 use Rattle.lease_laws.specs.server.Laws.{Among}
 use Rattle.lease_manager.specs.Summaries.{file_order, is_on}

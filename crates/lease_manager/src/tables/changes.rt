@@ -342,7 +342,6 @@ fn leave_queues(
     }
 }
 
-<<<<<<< ours
 // Whether it stays known that no open of a lease that is breaking is left to be closed, where the lease of the key becomes
 // this one.
 fn keeps_settled(
@@ -387,7 +386,8 @@ fn opens_settled(
         Some(key) => keeps_settled(known, opens, summaries, alloc, key, lease),
         None => known,
     }
-=======
+}
+
 // The same on one file. Where the client has no request, what is known of the others stays.
 fn leave_queue(
     queues: &mut Queues,
@@ -411,7 +411,6 @@ fn is_any_of(queue: &[Held], client: ClientNo) -> bool
     ensures { result ≡ list_any (is_of client.0) queue.now }
 {
     queue.iter().any(|one| one.client == client)
->>>>>>> theirs
 }
 
 // The client is no longer connected.

@@ -9,12 +9,9 @@ returns c = rw (← c.self.view_is) (table_gone (the_view c.self.inside) _ _ c.a
     c.in_ok-files.ensures (rw c.deref.ensures.value at c.forget_queues.ensures.gone)) c.forget_connection.ensures)
 
 pub invariant_of-self : goal.invariant_of-self
-<<<<<<< ours
-invariant_of-self c = (c.self.invariant.0, λ file. none_counted _ _ _ _ (c.clear.ensures file), c.self.invariant.2)
-=======
 invariant_of-self c = (
   c.self.invariant.0,
   known_left _ c.self.inside.queues c.forget_queues.new.queues c.self.inside.waiting c.forget_queues.new.waiting
       c.forget_queues.ensures.known c.self.invariant.1,
+  c.self.invariant.2,
 )
->>>>>>> theirs

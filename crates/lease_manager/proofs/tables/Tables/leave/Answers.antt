@@ -12,12 +12,9 @@ returns c =
     c.in_ok-files.ensures (rw c.deref.ensures.value at c.leave_queues.ensures.gone)))
 
 pub invariant_of-self : goal.invariant_of-self
-<<<<<<< ours
-invariant_of-self c = (c.self.invariant.0, λ file. none_counted _ _ _ _ (c.clear.ensures file), c.self.invariant.2)
-=======
 invariant_of-self c = (
   c.self.invariant.0,
   known_left _ c.self.inside.queues c.leave_queues.new.queues c.self.inside.waiting c.leave_queues.new.waiting
       c.leave_queues.ensures.known c.self.invariant.1,
+  c.self.invariant.2,
 )
->>>>>>> theirs

@@ -26,19 +26,6 @@ returns-in-Ok-clause-parted c = λ test are.
     (rw c.deref-2.ensures.value at c.in-Ok.ensures))
 
 pub invariant_of-self : goal.invariant_of-self
-<<<<<<< ours
-invariant_of-self c = (
-  rw c.in-Ok.ensures (kept_mapped c.close_all.new.opens (disconnected_where _) c.close_all.new.summaries c.self.inside.last_id
-      (kept_left c.self.inside.opens _ c.self.inside.summaries c.close_all.new.summaries c.close_all.new.opens
-      c.self.inside.last_id c.self.invariant.0 (c.close_all.ensures c.self.invariant.0.agree))
-      (connection_kept _ false) (same_id_where _ false)),
-  λ file. none_counted _ _ _ _ (c.clear.ensures file),
-  parted_settled c.self.inside.settled c.self.inside.opens c.close_all.new.opens c.disconnect_all.new.opens _ c.args.named.now
-      c.in_ok-left.left.items c.self.inside.summaries c.close_all.new.summaries c.in_ok-ended.ensures.in_order
-      (rw c.deref.ensures.value at (c.close_all.ensures c.self.invariant.0.agree)) c.in_ok-left.ensures.ids
-      (rw c.deref-2.ensures.value at c.in-Ok.ensures) c.self.invariant.2,
-)
-=======
 invariant_of-self c =
     let queues = held_at (filed c.self.inside.queues) in
     let named = c.args.named.now in
@@ -62,8 +49,10 @@ invariant_of-self c =
           c.close_all.new.opens (numbers c.in_ok-ended.ended.items) c.self.inside.summaries c.close_all.new.summaries closed
           (forgotten_fewer _ named c.in_ok-ended.ended.items c.self.inside.opens before after c.in_ok-ended.ensures.ids
           c.forget_files.ensures)) c.self.invariant.1),
+      parted_settled c.self.inside.settled c.self.inside.opens c.close_all.new.opens c.disconnect_all.new.opens _ named left
+          c.self.inside.summaries c.close_all.new.summaries c.in_ok-ended.ensures.in_order closed c.in_ok-left.ensures.ids kept
+          c.self.invariant.2,
     )
->>>>>>> theirs
 
 pub invariant_of-self-in-Err-1 : goal.invariant_of-self-in-Err-1
 invariant_of-self-in-Err-1 c = (

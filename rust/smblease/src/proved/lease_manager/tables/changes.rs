@@ -7,6 +7,7 @@ use crate::proved::lease_manager::tables::opens::Opens;
 use crate::proved::lease_manager::tables::queues::Queues;
 use crate::proved::lease_manager::tables::still::{forget_files, forget_for, forget_home};
 use crate::proved::lease_manager::tables::summaries::Summaries;
+use crate::proved::lease_manager::tables::waiting::Waiting;
 use crate::proved::lease_manager::values::closing::Closing;
 use crate::proved::lease_manager::values::key::LeaseName;
 use crate::proved::lease_manager::values::lease::HeldLease;
@@ -87,9 +88,8 @@ impl Tables {
     pub fn forget(&mut self, client: ClientNo) -> Result<(), Memory> {
         let alloc = self.alloc();
         let files = self.queues.files(alloc)?;
-        self.waiting.clear();
         forget_connection(&mut self.present, client);
-        forget_queues(&mut self.queues, &files, client);
+        forget_queues(&mut self.queues, &mut self.waiting, &files, client);
         Ok(())
     }
 
@@ -101,8 +101,7 @@ impl Tables {
     pub fn leave(&mut self, client: ClientNo, tags: &[Tag]) -> Result<(), Memory> {
         let alloc = self.alloc();
         let files = self.queues.files(alloc)?;
-        self.waiting.clear();
-        leave_queues(&mut self.queues, &files, client, tags);
+        leave_queues(&mut self.queues, &mut self.waiting, &files, client, tags);
         Ok(())
     }
 
@@ -195,16 +194,24 @@ fn add(opens: &mut Opens, summaries: &mut Summaries, alloc: Global, one: OpenEnt
 }
 
 // The requests of the client no longer wait on these files.
-fn forget_queues(queues: &mut Queues, files: &[FileNo], client: ClientNo) {
+fn forget_queues(queues: &mut Queues, waiting: &mut Waiting, files: &[FileNo], client: ClientNo) {
     for file in files {
-        queues.forget(*file, client);
+        forget_queue(queues, waiting, *file, client);
+    }
+}
+
+// The same on one file. Where none of them waits, what is known of the others stays.
+fn forget_queue(queues: &mut Queues, waiting: &mut Waiting, file: FileNo, client: ClientNo) {
+    if is_any_of(queues.at(file), client) {
+        waiting.forget(file);
+        queues.forget(file, client);
     }
 }
 
 // The requests of the client under these tags no longer wait on these files.
-fn leave_queues(queues: &mut Queues, files: &[FileNo], client: ClientNo, tags: &[Tag]) {
+fn leave_queues(queues: &mut Queues, waiting: &mut Waiting, files: &[FileNo], client: ClientNo, tags: &[Tag]) {
     for file in files {
-        queues.leave(*file, client, tags);
+        leave_queue(queues, waiting, *file, client, tags);
     }
 }
 
@@ -229,6 +236,19 @@ fn opens_settled(known: bool, opens: &Opens, summaries: &Summaries, alloc: Globa
         Some(key) => keeps_settled(known, opens, summaries, alloc, key, lease),
         None => known,
     }
+}
+
+// The same on one file. Where the client has no request, what is known of the others stays.
+fn leave_queue(queues: &mut Queues, waiting: &mut Waiting, file: FileNo, client: ClientNo, tags: &[Tag]) {
+    if is_any_of(queues.at(file), client) {
+        waiting.forget(file);
+        queues.leave(file, client, tags);
+    }
+}
+
+// Whether a request of the client is among these.
+fn is_any_of(queue: &[Held], client: ClientNo) -> bool {
+    queue.iter().any(|one| one.client == client)
 }
 
 // The client is no longer connected.

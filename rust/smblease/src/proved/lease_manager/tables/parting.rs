@@ -5,6 +5,7 @@ use std::prelude::Vec;
 use crate::proved::lease_manager::tables::Tables;
 use crate::proved::lease_manager::tables::changes::{close_all, disconnect_all, forget_opens};
 use crate::proved::lease_manager::tables::sets::listed;
+use crate::proved::lease_manager::tables::still::forget_files;
 use crate::proved::lease_manager::values::number::ClientNo;
 use crate::proved::lease_state::{FileId, Memory};
 
@@ -48,11 +49,12 @@ impl Tables {
         let alloc = self.alloc();
         let ended = self.opens.lasting(alloc, named, &self.summaries, false)?;
         let left = self.opens.lasting(alloc, named, &self.summaries, true)?;
-        self.waiting.clear();
+        forget_files(&mut self.waiting, &self.opens, named);
         close_all(&mut self.opens, &mut self.summaries, &ended);
         match disconnect_all(&mut self.opens, alloc, &left) {
             Ok(()) => Ok(Parted { ended, left }),
             Err(memory) => {
+                self.waiting.clear();
                 forget_opens(&mut self.opens, &mut self.summaries, alloc);
                 Err(memory)
             }
