@@ -13,7 +13,7 @@ invariant_of-self-2 c = (
       (kept_mapped c.self.inside.opens (connected_again c.args.fid.0) c.self.inside.summaries c.self.inside.last_id
       c.self.invariant.0 (connection_kept (has_id c.args.fid.0) true) (same_id_where (has_id c.args.fid.0) true)),
   λ file. none_counted _ _ _ _ (c.clear.ensures file),
-  rw c.connect_again.ensures (again_settled c.self.inside.settled c.args.fid.0 c.self.inside.opens
+  rw c.in_ok-connect_again.ensures.changed (again_settled c.self.inside.settled c.args.fid.0 c.self.inside.opens
       (lease_in c.self.inside.summaries) c.self.invariant.2),
 )
 
