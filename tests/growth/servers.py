@@ -79,6 +79,12 @@ def server_cut(count: int) -> str:
     return text(joined() + asked(1, *leases(count, READS_HANDLES, durable=2)) + ["cut 1", "join 1"])
 
 
+def server_parted(count: int) -> str:
+    """Beside n opens of client 1, client 2 opens once and is cut, n times: it isn't to be charged for the others."""
+    turn = ["join 2", *asked(2, f"create 1 r r {lease_ask(1, READS)}"), "cut 2"]
+    return text(["file 61", "join 1"] + asked(1, *leases(count, READS)) + turn * count)
+
+
 def replay_acknowledged(count: int) -> str:
     """The same as a run: n leases are held by one create, and are acknowledged one by one."""
     lines = begun("61", 2)
@@ -117,6 +123,7 @@ SERVERS = [
     limited("server-conflicts", server_conflicts, "create", {"sent 2 createfailed 1 STATUS_SHARING_VIOLATION": 1}),
     limited("server-released", server_released, "create", {"opened 1 2": 1}),
     limited("server-cut", server_cut, "open", {"opened 1 1": 1}),
+    limited("server-parted", server_parted, "open", {"opened 1 1": 1, "opened 1 2": 1}, smallest=512),
     limited("replay-acknowledged", replay_acknowledged, "lease", {"sent 1": 3}),
     limited("replay-conflicts", replay_conflicts, "create", {"sent 2": 1}),
     # (at smaller sizes the height of the maps tells: each twice as many opens add a step to 8 steps, or to 12)

@@ -138,7 +138,8 @@ MANAGER_CALLS: dict[str, tuple[Any, ...]] = {
     "create": (1, 10, 1, Access.READ, Share.READ), "read": (1, 10, 1), "write": (1, 10, 1), "close_open": (1, 10, 1),
     "acknowledge": (1, Acknowledgment(GUID, RH)), "acknowledge_malformed": (1,), "withdraw": (1, 10, 1), "connected": (1,),
     "breaking": (1, GUID), "waiting": (1, 10, 1), "left_behind": (1,), "has_open": (1,), "open_count": (),
-    "allowed": (1, None, 1, RW), "kept": (1, 1), "lease": (1, GUID), "opens": (), "leases": (), "requests": (), "leave": (1, [1], [10]),
+    "allowed": (1, None, 1, RW), "kept": (1, 1), "lease": (1, GUID), "opens": (), "leases": (), "requests": (),
+    "leave": (1, [1], [10]),
     "give_up": (1, None, 1, Extent.ALL), "given_up": (1, None, 1, Extent.ALL), "may_read": (1, 1), "may_write": (1, 1),
     "__enter__": (),
 }

@@ -5,8 +5,8 @@ import uuid
 
 import pytest
 
-from smblease import (Access, AcknowledgeFailed, Answer, Client, Created, CreateFailed, Done, Failed, LeaseState, Quiet, ReadFailed,
-                      Share, Status)
+from smblease import (Access, AcknowledgeFailed, Answer, Client, Created, CreateFailed, Done, Failed, LeaseState, Quiet,
+                      ReadFailed, Share, Status)
 
 GUID = uuid.UUID(int=7)
 # Those that the machines know, those that they don't, and what no refusal has.

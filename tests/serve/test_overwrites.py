@@ -46,7 +46,9 @@ def test_what_waited_is_answered_after_the_overwrite(served: ServerProcess, conn
     _, first, second = waiting(one, earlier, later)
     assert earlier.has_more(QUIET) is later.has_more(QUIET) is False
     assert (one.status(acknowledgment(KEY, "R")), new_state(one.receive())) == (Status.SUCCESS, NONE)
-    assert earlier.answer_to(first).status == later.answer_to(second).status == Status.SUCCESS
+    assert earlier.answer_to(first).status == Status.SUCCESS
+    emptied = later.answer_to(second)
+    assert (emptied.status, emptied.number(112, 8)) == (Status.SUCCESS, 0), "where the file ends"
 
 
 def test_a_client_that_goes_meanwhile_has_nothing_open(served: ServerProcess, connect: Connect) -> None:

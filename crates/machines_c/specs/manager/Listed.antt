@@ -7,6 +7,8 @@ use Rattle.lease_manager.specs.declared.values.listed.ListedLease.{ListedLease}
 use Rattle.lease_manager.specs.declared.values.listed.ListedRequest.{ListedRequest}
 use Rattle.lease_manager.specs.declared.values.open.ListedOpen.{ListedOpen}
 use Rattle.machines_c.specs.declared.manager.listed.Listed.{Listed}
+use Rattle.machines_c.specs.declared.manager.listed.Listing.{Listing}
+use Rattle.machines_c.specs.declared.manager.listed.Listing.TheVariants as listings
 use Rattle.machines_c.specs.declared.manager.managing.Managing.{Managing}
 
 -- what was listed since the last call: nothing, where no manager is held
@@ -54,3 +56,9 @@ pub record AreRequestsListed (old new : Managing) : Type 0 where
   pub opens : new.listed.opens ≡ old.listed.opens
   pub leases : new.listed.leases ≡ old.listed.leases
   pub only : OnlyLists old new
+
+-- These are.
+abbrev pub AreListed : Listing → Managing → Managing → Type 0
+AreListed listings.Opens old new = AreOpensListed old new
+AreListed listings.Leases old new = AreLeasesListed old new
+AreListed listings.Requests old new = AreRequestsListed old new

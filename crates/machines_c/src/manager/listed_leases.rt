@@ -1,13 +1,12 @@
-ghost use Rattle.std.specs.Prelude.{◌≡◌, ◌≢◌, ◌≤◌, None, IfSome, OnOk, OnErr, slice_get, IsSomeAnd};
+ghost use Rattle.std.specs.Prelude.{◌≡◌, ◌≢◌, ◌≤◌, None, IfSome, slice_get, IsSomeAnd};
 ghost use Rattle.machines_c.specs.declared.handles.outcome.Outcome.TheVariants as outcomes;
 ghost use Rattle.machines_c.specs.manager.Fields.{listed_lease_fields};
 ghost use Rattle.machines_c.specs.manager.Listed.{AreLeasesListed, leases_listed};
 
 use crate::handles::Outcome;
 use crate::manager::handle::ManagerHandle;
-use crate::manager::managing::Managing;
+use crate::manager::listed::Listing;
 use lease_manager::ListedLease;
-use lease_state::Memory;
 use std::alloc::Global;
 
 /// A lease: `struct smblease_listed_lease`.
@@ -55,17 +54,6 @@ impl ListedLeaseFields {
     }
 }
 
-impl Managing {
-    // Lists the leases.
-    fn list_leases(&mut self) -> Result<(), Memory>
-        ensures listed { OnOk result (AreLeasesListed self.old self.new) }
-        ensures err { OnErr result (self.new ≡ self.old) }
-    {
-        self.listed.leases = self.manager.leases()?;
-        Ok(())
-    }
-}
-
 /// Lists all leases as they stand (3.3.1.12), in order of their clients' numbers, then of their keys' bytes. What the
 /// last call decided stays.
 ///
@@ -78,17 +66,7 @@ pub extern "C" fn smblease_manager_list_leases(alloc: Global, manager: &mut Mana
     ensures some { manager.old.held ≢ None → result ≤ 1 }
     ensures none { manager.old.held ≡ None → result ≡ 3 }
 {
-    match manager.take(alloc) {
-        None => Outcome::Nothing.code(),
-        Some(mut managing) => {
-            let outcome = match managing.list_leases() {
-                Ok(()) => Outcome::Done,
-                Err(_) => Outcome::NoMemory,
-            };
-            manager.put(alloc, managing);
-            outcome.code()
-        }
-    }
+    manager.list(alloc, Listing::Leases).code()
 }
 
 // Writes the lease at the index into `out`.

@@ -1,4 +1,4 @@
-ghost use Rattle.std.specs.Prelude.{◌≡◌, ◌≢◌, ◌≤◌, None, IfSome, OnOk, OnErr, slice_get, IsSomeAnd};
+ghost use Rattle.std.specs.Prelude.{◌≡◌, ◌≢◌, ◌≤◌, None, IfSome, slice_get, IsSomeAnd};
 ghost use Rattle.machines_c.specs.declared.handles.outcome.Outcome.TheVariants as outcomes;
 ghost use Rattle.lease_manager.specs.Listings.{waiting_of};
 ghost use Rattle.lease_manager.specs.Requests.{ask_of};
@@ -7,9 +7,8 @@ ghost use Rattle.machines_c.specs.manager.Listed.{AreRequestsListed, requests_li
 
 use crate::handles::Outcome;
 use crate::manager::handle::ManagerHandle;
-use crate::manager::managing::Managing;
+use crate::manager::listed::Listing;
 use lease_manager::{Ask, CreateAsk, ListedRequest};
-use lease_state::Memory;
 use std::alloc::Global;
 
 /// A request that waits: `struct smblease_listed_request`. What has no meaning for its kind is 0.
@@ -92,7 +91,10 @@ impl RequestFields {
     {
         match one.ask {
             Ask::Create {
-                access, share, ask, ..
+                access,
+                share,
+                ask,
+                ..
             } => {
                 let mut fields = RequestFields::of_kind(one, 1, 0);
                 fields.access = access.bits();
@@ -103,17 +105,6 @@ impl RequestFields {
             Ask::Write { fid, .. } => RequestFields::of_kind(one, 3, fid.0),
             Ask::Close { fid } => RequestFields::of_kind(one, 4, fid.0),
         }
-    }
-}
-
-impl Managing {
-    // Lists what waits.
-    fn list_requests(&mut self) -> Result<(), Memory>
-        ensures listed { OnOk result (AreRequestsListed self.old self.new) }
-        ensures err { OnErr result (self.new ≡ self.old) }
-    {
-        self.listed.requests = self.manager.waiting()?;
-        Ok(())
     }
 }
 
@@ -129,17 +120,7 @@ pub extern "C" fn smblease_manager_list_requests(alloc: Global, manager: &mut Ma
     ensures some { manager.old.held ≢ None → result ≤ 1 }
     ensures none { manager.old.held ≡ None → result ≡ 3 }
 {
-    match manager.take(alloc) {
-        None => Outcome::Nothing.code(),
-        Some(mut managing) => {
-            let outcome = match managing.list_requests() {
-                Ok(()) => Outcome::Done,
-                Err(_) => Outcome::NoMemory,
-            };
-            manager.put(alloc, managing);
-            outcome.code()
-        }
-    }
+    manager.list(alloc, Listing::Requests).code()
 }
 
 // Writes the request at the index into `out`.

@@ -1,4 +1,4 @@
-ghost use Rattle.std.specs.Prelude.{◌≡◌, ◌≢◌, ◌≤◌, None, IfSome, OnOk, OnErr, slice_get, IsSomeAnd};
+ghost use Rattle.std.specs.Prelude.{◌≡◌, ◌≢◌, ◌≤◌, None, IfSome, slice_get, IsSomeAnd};
 ghost use Rattle.machines_c.specs.declared.handles.outcome.Outcome.TheVariants as outcomes;
 ghost use Rattle.lease_manager.specs.Listing.{open_of};
 ghost use Rattle.machines_c.specs.manager.Listed.{AreOpensListed, opens_listed};
@@ -6,9 +6,8 @@ ghost use Rattle.machines_c.specs.manager.Fields.{open_fields};
 
 use crate::handles::Outcome;
 use crate::manager::handle::ManagerHandle;
-use crate::manager::managing::Managing;
+use crate::manager::listed::Listing;
 use lease_manager::ListedOpen;
-use lease_state::Memory;
 use std::alloc::Global;
 
 /// An open: `struct smblease_listed_open`.
@@ -61,17 +60,6 @@ impl OpenFields {
     }
 }
 
-impl Managing {
-    // Lists the opens.
-    fn list_opens(&mut self) -> Result<(), Memory>
-        ensures listed { OnOk result (AreOpensListed self.old self.new) }
-        ensures err { OnErr result (self.new ≡ self.old) }
-    {
-        self.listed.opens = self.manager.opens()?;
-        Ok(())
-    }
-}
-
 /// Lists all opens as they stand, in the order of their FileIds. What the last call decided stays.
 ///
 /// Returns 0; 1 where there is no memory for the list, and nothing changed; 3 where there is no
@@ -83,17 +71,7 @@ pub extern "C" fn smblease_manager_list_opens(alloc: Global, manager: &mut Manag
     ensures some { manager.old.held ≢ None → result ≤ 1 }
     ensures none { manager.old.held ≡ None → result ≡ 3 }
 {
-    match manager.take(alloc) {
-        None => Outcome::Nothing.code(),
-        Some(mut managing) => {
-            let outcome = match managing.list_opens() {
-                Ok(()) => Outcome::Done,
-                Err(_) => Outcome::NoMemory,
-            };
-            manager.put(alloc, managing);
-            outcome.code()
-        }
-    }
+    manager.list(alloc, Listing::Opens).code()
 }
 
 // Writes the open at the index into `out`.

@@ -2,9 +2,8 @@
 
 use crate::proved::machines_c::handles::Outcome;
 use crate::proved::machines_c::manager::handle::ManagerHandle;
-use crate::proved::machines_c::manager::managing::Managing;
+use crate::proved::machines_c::manager::listed::Listing;
 use smblease::proved::lease_manager::ListedLease;
-use smblease::proved::lease_state::Memory;
 use std::alloc::Global;
 
 /// A lease: `struct smblease_listed_lease`.
@@ -50,31 +49,13 @@ impl ListedLeaseFields {
     }
 }
 
-impl Managing {
-    // Lists the leases.
-    fn list_leases(&mut self) -> Result<(), Memory> {
-        self.listed.leases = self.manager.leases()?;
-        Ok(())
-    }
-}
-
 /// Lists all leases as they stand (3.3.1.12), in order of their clients' numbers, then of their keys' bytes. What the
 /// last call decided stays.
 ///
 /// Returns 0; 1 where there is no memory for the list, and nothing changed; 3 where there is no
 /// manager.
 pub fn smblease_manager_list_leases(alloc: Global, manager: &mut ManagerHandle) -> u32 {
-    match manager.take(alloc) {
-        None => Outcome::Nothing.code(),
-        Some(mut managing) => {
-            let outcome = match managing.list_leases() {
-                Ok(()) => Outcome::Done,
-                Err(_) => Outcome::NoMemory,
-            };
-            manager.put(alloc, managing);
-            outcome.code()
-        }
-    }
+    manager.list(alloc, Listing::Leases).code()
 }
 
 // Writes the lease at the index into `out`.

@@ -2,9 +2,8 @@
 
 use crate::proved::machines_c::handles::Outcome;
 use crate::proved::machines_c::manager::handle::ManagerHandle;
-use crate::proved::machines_c::manager::managing::Managing;
+use crate::proved::machines_c::manager::listed::Listing;
 use smblease::proved::lease_manager::{Ask, CreateAsk, ListedRequest};
-use smblease::proved::lease_state::Memory;
 use std::alloc::Global;
 
 /// A request that waits: `struct smblease_listed_request`. What has no meaning for its kind is 0.
@@ -93,31 +92,13 @@ impl RequestFields {
     }
 }
 
-impl Managing {
-    // Lists what waits.
-    fn list_requests(&mut self) -> Result<(), Memory> {
-        self.listed.requests = self.manager.waiting()?;
-        Ok(())
-    }
-}
-
 /// Lists all requests that wait (3.3.4.2), in order of their files' numbers, and on each file in order of arrival. What the
 /// last call decided stays.
 ///
 /// Returns 0; 1 where there is no memory for the list, and nothing changed; 3 where there is no
 /// manager.
 pub fn smblease_manager_list_requests(alloc: Global, manager: &mut ManagerHandle) -> u32 {
-    match manager.take(alloc) {
-        None => Outcome::Nothing.code(),
-        Some(mut managing) => {
-            let outcome = match managing.list_requests() {
-                Ok(()) => Outcome::Done,
-                Err(_) => Outcome::NoMemory,
-            };
-            manager.put(alloc, managing);
-            outcome.code()
-        }
-    }
+    manager.list(alloc, Listing::Requests).code()
 }
 
 // Writes the request at the index into `out`.

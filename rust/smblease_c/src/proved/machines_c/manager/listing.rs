@@ -2,9 +2,8 @@
 
 use crate::proved::machines_c::handles::Outcome;
 use crate::proved::machines_c::manager::handle::ManagerHandle;
-use crate::proved::machines_c::manager::managing::Managing;
+use crate::proved::machines_c::manager::listed::Listing;
 use smblease::proved::lease_manager::ListedOpen;
-use smblease::proved::lease_state::Memory;
 use std::alloc::Global;
 
 /// An open: `struct smblease_listed_open`.
@@ -55,30 +54,12 @@ impl OpenFields {
     }
 }
 
-impl Managing {
-    // Lists the opens.
-    fn list_opens(&mut self) -> Result<(), Memory> {
-        self.listed.opens = self.manager.opens()?;
-        Ok(())
-    }
-}
-
 /// Lists all opens as they stand, in the order of their FileIds. What the last call decided stays.
 ///
 /// Returns 0; 1 where there is no memory for the list, and nothing changed; 3 where there is no
 /// manager.
 pub fn smblease_manager_list_opens(alloc: Global, manager: &mut ManagerHandle) -> u32 {
-    match manager.take(alloc) {
-        None => Outcome::Nothing.code(),
-        Some(mut managing) => {
-            let outcome = match managing.list_opens() {
-                Ok(()) => Outcome::Done,
-                Err(_) => Outcome::NoMemory,
-            };
-            manager.put(alloc, managing);
-            outcome.code()
-        }
-    }
+    manager.list(alloc, Listing::Opens).code()
 }
 
 // Writes the open at the index into `out`.
