@@ -24,10 +24,10 @@ abbrev pub MayBeLostBy : Command → Stepping → Type 0
 MayBeLostBy command old = is_refused (commanded (client_of old.step.client) command).answer ≡ true → ⊥
 
 -- The client took a message of the server, of which this was the status: 0 where it refuses nothing.
-pub record TookWith (code : ℕ) (reply : Reply) (old new : Stepping) : Type 0 where
+pub record TookWith (status : ℕ) (reply : Reply) (old new : Stepping) : Type 0 where
   pub step : IsStep new.step (taken (client_of old.step.client) reply)
   pub beliefs : RoseBy reply (client_of old.step.client) (client_of new.step.client)
-  pub code : new.code ≡ code
+  pub code : new.code ≡ status
 
 abbrev pub Took : Reply → Stepping → Stepping → Type 0
 Took reply old new = TookWith 0 reply old new

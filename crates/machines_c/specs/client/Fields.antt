@@ -3,6 +3,7 @@ use Rattle.std.specs.Prelude.{ℕ, List, [], length, replicate, Option, Some, No
 use Rattle.lease_state.specs.Access.{uses_of, allowed_by, bits_of_uses}
 use Rattle.lease_state.specs.State.{state_of, bits_of_state}
 use Rattle.lease_state.specs.Status as status
+use Rattle.lease_state.specs.declared.status.Status.{Status}
 use Rattle.lease_state.specs.declared.request.Request as request
 use Rattle.lease_client.specs.declared.values.command.Answer as answer
 use Rattle.lease_client.specs.declared.values.command.Refusal as refusal
@@ -34,7 +35,7 @@ abbrev pub bare_answer : ℕ → ClientAnswer
 bare_answer kind = record { length = 0; kind = kind; refusal = 0; status = 0; cached = 0; reserved = replicate 27 0 }
 
 -- the status of a reply as it came, where one is known
-abbrev pub status_told : ℕ → status.Status → ℕ
+abbrev pub status_told : ℕ → Status → ℕ
 status_told code failed = if code == 0 then status.code_of failed else code
 
 -- an answer, where the last reply had this status
