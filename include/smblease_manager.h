@@ -95,8 +95,8 @@ struct smblease_manager { void *state; };
 /* Makes a manager where nothing is open and no client has joined, of one of enum smblease_order and one of enum
    smblease_rise (smblease_machines.h). Windows and Samba were seen to go by SMBLEASE_BY_KEY and SMBLEASE_WHOLE.
    SMBLEASE_BY_CLIENT, the profile's, has a trap: a client that opens a file again without a key while it caches
-   writes waits for its own lease's break, its write-back behind that, and the timer takes the lease with what it
-   cached. Files have the numbers from 1 to `files`: UINT64_MAX where the host checks them itself. What the handle
+   writes waits for the break of its own lease, its write-back waits for that create, and the timer takes the lease
+   with what was cached. Files have the numbers from 1 to `files`: UINT64_MAX where the host checks them itself. What the handle
    held is freed. Allocates. DONE, NO_MEMORY, or NO_SUCH where a number stands for no rule; unless DONE the handle
    is as it was. */
 uint32_t smblease_manager_new(struct smblease_manager *manager, uint32_t order, uint32_t rise, uint64_t files);
