@@ -112,9 +112,10 @@ def replay_cut(count: int) -> str:
     return text(lines + ["cut 1", "notice 1", "connect 1"])
 
 
-def limited(name: str, make: Callable[[int], str], unit: str, facts: dict[str, int], smallest: int = 128) -> Family:
-    """A family whose exponent is to be at most 1.15."""
-    return Family(name, name.split("-")[0], make, smallest, unit, most_exponent=1.15, facts=facts)
+def limited(name: str, make: Callable[[int], str], unit: str, facts: dict[str, int], smallest: int = 512) -> Family:
+    """A family whose exponent is to be at most 1.2: what looks into maps rises as n log n, whose exponent is 1.17 from 128 to 1,024.
+    At smaller sizes it would be more."""
+    return Family(name, name.split("-")[0], make, smallest, unit, most_exponent=1.2, facts=facts)
 
 
 SERVERS = [
@@ -123,9 +124,9 @@ SERVERS = [
     limited("server-conflicts", server_conflicts, "create", {"sent 2 createfailed 1 STATUS_SHARING_VIOLATION": 1}),
     limited("server-released", server_released, "create", {"opened 1 2": 1}),
     limited("server-cut", server_cut, "open", {"opened 1 1": 1}),
-    limited("server-parted", server_parted, "open", {"opened 1 1": 1, "opened 1 2": 1}, smallest=512),
-    limited("replay-acknowledged", replay_acknowledged, "lease", {"sent 1": 3}),
-    limited("replay-conflicts", replay_conflicts, "create", {"sent 2": 1}),
-    # (at smaller sizes the height of the maps tells: each twice as many opens add a step to 8 steps, or to 12)
-    limited("replay-cut", replay_cut, "open", {"opened 1 1": 1}, smallest=512),
+    limited("server-parted", server_parted, "open", {"opened 1 1": 1, "opened 1 2": 1}),
+    # (a schedule has at most 10,000 events)
+    limited("replay-acknowledged", replay_acknowledged, "lease", {"sent 1": 3}, smallest=256),
+    limited("replay-conflicts", replay_conflicts, "create", {"sent 2": 1}, smallest=256),
+    limited("replay-cut", replay_cut, "open", {"opened 1 1": 1}, smallest=256),
 ]

@@ -33,6 +33,21 @@ def test_an_overwrite_of_an_open_file(served: ServerProcess, connect: Connect) -
     assert one.status(read(first)) == Status.END_OF_FILE
 
 
+def test_an_overwrite_while_a_lease_is_being_broken(served: ServerProcess, connect: Connect) -> None:
+    """Its client is asked for what is left once it has acknowledged that."""
+    one, other, third = connect(served), connect(served), connect(served)
+    one.open(leased("file", KEY, "RWH"))
+    opening = other.send(create("file"))
+    assert (other.receive().status, one.receive().number(92, 4)) == (Status.PENDING, 3), "a break to RH"
+    number = third.send(create("file", disposition=OVERWRITE))
+    assert third.receive().status == Status.PENDING
+    assert one.status(acknowledgment(KEY, "RH")) == Status.SUCCESS
+    assert other.answer_to(opening).status == Status.SUCCESS
+    assert one.receive().number(92, 4) == 0, "a break of what is left, which only reads"
+    assert end_of_file(third.answer_to(number)) == 0
+    assert one.status(acknowledgment(KEY, "none")) == Status.SUCCESS
+
+
 def test_an_overwrite_that_conflicts(served: ServerProcess, connect: Connect) -> None:
     """Its client is asked for handles alone, as by any other create that conflicts."""
     one, other = connect(served), connect(served)

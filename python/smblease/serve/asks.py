@@ -61,20 +61,6 @@ class GivingUp:
         return manager.given_up(self.client.number, self.key, self.node.number, self.extent)
 
 
-@dataclass(frozen=True, eq=False)
-class Emptying(GivingUp):
-    """They give up all, before a create that empties the file: by one break each, or step by step where another request waits for
-    them already. What is opened for such a request is answered after this."""
-
-    is_second: bool = False
-
-    def call(self, manager: Manager) -> Decisions:
-        whose = self.client.number, self.key, self.node.number
-        if self.is_second and not manager.given_up(*whose, Extent.HANDLES):
-            return manager.give_up(*whose, Extent.HANDLES)
-        return super().call(manager)
-
-
 @dataclass(frozen=True)
 class Acknowledging:
     """An acknowledgment, or none where it can't be read. It has no tag, and is decided at once."""

@@ -5,7 +5,7 @@ from collections.abc import Callable
 from uuid import UUID
 
 from smblease import Access, Extent, Share, Status
-from smblease.serve.asks import Emptying, GivingUp, Steps, closing, opening
+from smblease.serve.asks import GivingUp, Steps, closing, opening
 from smblease.serve.node import Node
 from smblease.serve.opens import ManagerClient, Open
 from smblease.serve.request import Handlers, Request
@@ -34,8 +34,8 @@ class ForcedBreaks(Handlers):
         yield GivingUp(opened.client or request.client, opened.key, node, Extent.ALL, done)
 
     def break_for_emptying(self, request: Request, node: Node, key: UUID | None) -> Steps:
-        """Has all others give up all that they cache, before a create that empties the file."""
-        yield Emptying(request.client, key, node, Extent.ALL, is_second=self._server.host.has_waiting_on(node))
+        """Has all others give up all that they cache, before a create that empties the file: each lease is broken once."""
+        yield GivingUp(request.client, key, node, Extent.ALL)
         self._check_connected(request)
 
     @staticmethod

@@ -15,13 +15,12 @@ from smblease.drive.headers import Unreadable
 from smblease.faults import ToolFault
 from smblease.manager_decisions import (Acknowledged, Breaks, Closed, Decision, Decisions, Ended, GoesOn, LeftBehind,
                                         NotAcknowledged, Opened, Refused, Waits, Withdrawn)
-from smblease.serve.asks import Acknowledging, Asked, Emptying, GivingUp, Handling, Meanwhile, Pause, Steps, Yielded
+from smblease.serve.asks import Acknowledging, Asked, GivingUp, Handling, Meanwhile, Pause, Steps, Yielded
 from smblease.serve.disk_status import status_of
 from smblease.serve.packets import Answer
 from smblease.serve.status_error import EXHAUSTED, RefusedByManager, StatusError
 
 if TYPE_CHECKING:
-    from smblease.serve.node import Node
     from smblease.serve.opens import ManagerClient
     from smblease.serve.server import Server
 
@@ -44,8 +43,6 @@ class Task:
         # what it waits for
         self.asked: Asked | GivingUp | None = None
         self.tag = 0
-        # whether it had to wait for what it asked
-        self.has_waited = False
         self.pause: Pause | None = None
         # what the manager decided of it, and whose leases it broke by that, where somebody wants to know
         self.decided: list[Decision] | None = None
@@ -70,8 +67,6 @@ class ManagerHost:
         self._waiting: dict[int, Task] = {}
         # those of them that wait until others have given up what they hold
         self._giving_up: dict[int, Task] = {}
-        # what is answered once nothing waits that empties the file
-        self._postponed: list[Opened] = []
         # an acknowledgment with its task
         self._decisions: deque[tuple[Decision | Pause, Task | None]] = deque()
         self._paused: dict[Pause, Task] = {}
@@ -85,10 +80,6 @@ class ManagerHost:
     @property
     def waiting(self) -> list[Task]:
         return list(self._waiting.values())
-
-    def has_waiting_on(self, node: Node) -> bool:
-        """Whether what is asked of a file waits."""
-        return any(it.has_waited and it.asked and it.asked.node is node for it in self._waiting.values())
 
     def start(self, task: Task) -> None:
         """Begins a task, and goes on until nothing is left that was decided."""
@@ -111,7 +102,6 @@ class ManagerHost:
     def _lost(self) -> None:
         """There was no memory: nobody knows any longer who has what open, or caches it."""
         self.manager = Manager(self._rules)
-        self._postponed.clear()
         self._decisions.clear()
         self._decisions.extend((it, None) for it in self._paused)
         self.abandon({it.asked.client.number for it in self._waiting.values() if it.asked}, Status.USER_SESSION_DELETED)
@@ -205,16 +195,14 @@ class ManagerHost:
             self._refuse(task, RefusedByManager(Status(decision.status)))
 
     def _goes_on(self, decision: Opened | GoesOn | Closed, _: Task | None) -> None:
-        if self._giving_up and isinstance(decision, Opened) and self._is_emptied(decision.tag):
-            self._postponed.append(decision)
-            return
         task = self._waiting.pop(decision.tag, None)
         if task and task.decided is not None:
             task.decided.append(decision)
         if task is None or task.asked is None:
             # Its client was cut before this was carried out. What nobody knows of nobody can close.
             if isinstance(decision, Opened):
-                self._forget_open(decision)
+                file_id = decision.file_id
+                self.call(lambda manager: manager.scavenge(file_id))
             return
         asked = task.asked
         assert isinstance(asked, Asked)
@@ -230,26 +218,6 @@ class ManagerHost:
             self._refuse(task, fault)
         else:
             self._go(task, task.handling.send, found)
-
-    def _forget_open(self, decision: Opened) -> None:
-        """Whether its client is gone, or only the part of it that asked."""
-        client, tag, file_id = decision.client, next(self._tags), decision.file_id
-        self.call(lambda manager: manager.scavenge(file_id))
-        self.call(lambda manager: manager.close_open(client, tag, file_id))
-
-    def _is_emptied(self, tag: int) -> bool:
-        """Whether what waited under the tag opens a file that is about to be emptied."""
-        task = self._waiting.get(tag)
-        if task is None or not task.has_waited or not isinstance(task.asked, Asked):
-            return False
-        node = task.asked.node
-        return any(isinstance(it.asked, Emptying) and it.asked.is_second and it.asked.node is node
-                   for it in self._giving_up.values())
-
-    def _gives_up_no_longer(self, tag: int) -> None:
-        del self._giving_up[tag]
-        self._decisions.extend((it, None) for it in self._postponed)
-        self._postponed.clear()
 
     def _done(self, effect: Callable[[], object]) -> tuple[object, StatusError | None]:
         """What comes of an effect."""
@@ -270,12 +238,9 @@ class ManagerHost:
         for tag, task in list(self._giving_up.items()):
             asked = task.asked
             if tag not in self._waiting or not isinstance(asked, GivingUp):
-                self._gives_up_no_longer(tag)
-                if self._decisions:
-                    return True
+                del self._giving_up[tag]
             elif asked.is_over(self.manager):
-                self._gives_up_no_longer(tag)
-                del self._waiting[tag]
+                del self._giving_up[tag], self._waiting[tag]
                 found, fault = self._done(asked.effect)
                 if fault:
                     self._refuse(task, fault)
@@ -359,7 +324,6 @@ class ManagerHost:
         except LOST:
             self._lost()
             return False
-        task.has_waited = any(isinstance(it, Waits) for it in decisions)
         for it in decisions:
             self._decisions.append((it, None))
             if task.decided is not None and isinstance(it, (Breaks, Waits)):
