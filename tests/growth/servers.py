@@ -113,8 +113,8 @@ def replay_cut(count: int) -> str:
 
 
 def limited(name: str, make: Callable[[int], str], unit: str, facts: dict[str, int], smallest: int = 512) -> Family:
-    """A family whose exponent is to be at most 1.2: what looks into maps rises as n log n, whose exponent is 1.17 from 128 to 1,024.
-    At smaller sizes it would be more."""
+    """A family whose exponent is to be at most 1.2: what looks into maps rises as n log n, whose exponent is 1.17 from 128 to
+    1,024. At smaller sizes it would be more."""
     return Family(name, name.split("-")[0], make, smallest, unit, most_exponent=1.2, facts=facts)
 
 
