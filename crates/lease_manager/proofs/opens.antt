@@ -1,8 +1,13 @@
+pub mod AllKept
 pub mod Expiring
 pub mod Filing
+pub mod Homes
 pub mod Indexing
 pub mod Joining
 pub mod LeftOpens
 pub mod Parting
+pub mod Restarting
+pub mod Restorable
+pub mod Restoring
 pub mod Sets
 pub mod Tabling

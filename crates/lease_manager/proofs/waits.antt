@@ -1,4 +1,5 @@
 pub mod Awaiting
+pub mod Clients
 pub mod Counted
 pub mod Listed
 pub mod OneFile

@@ -19,6 +19,7 @@ pub mod LeftOpens
 pub mod Listing
 pub mod Listings
 pub mod Looks
+pub mod Multimaps
 pub mod OneFile
 pub mod OpenIndex
 pub mod Outs
@@ -28,6 +29,7 @@ pub mod Questions
 pub mod Queues
 pub mod Remaining
 pub mod Requests
+pub mod Restarting
 pub mod Sets
 pub mod StillWaiting
 pub mod Summaries

@@ -8,9 +8,9 @@ use Rattle.lease_manager.specs.LeftOpens.{ids_of, numbers}
 use Rattle.lease_manager.specs.KeyOrder.{key_order}
 use Rattle.lease_manager.specs.Looks.{is_left_by}
 use Rattle.lease_manager.specs.Parting.{is_connected_of}
+use Rattle.lease_manager.specs.Multimaps.{listed_at}
 use Rattle.lease_manager.specs.Sets.{values_at}
 use Rattle.lease_manager.specs.declared.tables.open_index.OpenIndex.{OpenIndex}
-use Rattle.lease_manager.specs.declared.tables.sets.Sets.{Sets}
 use Rattle.lease_manager.specs.declared.values.number.ClientNo.{ClientNo}
 use Rattle.lease_manager.specs.declared.values.owner.Owner.{Owner}
 use Rattle.lease_state.specs.declared.number.FileId.{FileId}
@@ -29,14 +29,14 @@ abbrev pub is_left : Owner → Open → Bool
 is_left owner = is_left_by owner.client.0 owner.file.0
 
 -- the FileIds of a key are those of the opens that pass its test
-abbrev pub AreIndexed : {K : Type 0} → (K → K → Ordering) → (K → Open → Bool) → Sets K FileId → List Open → Type 0
-AreIndexed {K} order test ids opens = (key : K) → numbers (values_at order ids key) ≡ ids_of (filter (test key) opens)
+abbrev pub AreIndexed : {K : Type 0} → (K → Open → Bool) → (K → List FileId) → List Open → Type 0
+AreIndexed {K} test ids opens = (key : K) → numbers (ids key) ≡ ids_of (filter (test key) opens)
 
 -- The index has the FileIds of these opens, and no others.
 pub record IsIndexOf (opens : List Open) (index : OpenIndex) : Type 0 where
-  pub connected : AreIndexed client_order is_connected index.connected opens
-  pub left : AreIndexed owner_order is_left index.left opens
-  pub leased : AreIndexed key_order has_key index.leased opens
+  pub connected : AreIndexed is_connected (values_at client_order index.connected) opens
+  pub left : AreIndexed is_left (values_at owner_order index.left) opens
+  pub leased : AreIndexed has_key (listed_at key_order index.leased) opens
 
 -- no other has a FileId as high
 abbrev pub IsLast : Open → List Open → Type 0

@@ -1,6 +1,7 @@
 -- What a manager knows as plain lists, and the manager that they stand for.
-use Rattle.std.specs.Prelude.{ℕ, Bool, false, List, [], ◌∷◌, if◌then◌else◌, ◌==◌, bytes_eq}
+use Rattle.std.specs.Prelude.{◌≡◌, ℕ, Bool, true, false, List, [], ◌∷◌, if◌then◌else◌, ◌==◌, bytes_eq}
 use Rattle.std.specs.List.{list_any}
+use Rattle.lease_laws.specs.server.Laws.{Among}
 use Rattle.lease_manager.specs.declared.values.number.ClientNo.{ClientNo}
 use Rattle.lease_state.specs.declared.rules.Rules.{Rules}
 use Rattle.lease_model.specs.values.Keys.{Key, key_eq}
@@ -39,6 +40,10 @@ pub record Table : Type 0 where
 -- the client of this number is among these
 abbrev pub is_among : List ClientNo → ℕ → Bool
 is_among clients client = list_any (λ one. one.0 == client) clients
+
+-- the client of each request is one of these
+abbrev pub AreOf : List ClientNo → List Tagged → Type 0
+AreOf clients queue = (one : Tagged) → Among one queue → is_among clients one.held.client ≡ true
 
 -- what waits on a file
 abbrev pub queue_at : List Queue → ℕ → List Tagged

@@ -8,7 +8,8 @@ use Rattle.lease_laws.proofs.server.WaitCalls.{called-waits-well}
 use Rattle.manager_model.specs.Decisions.{Decision}
 use Rattle.manager_model.specs.Handling.{Handling, Manager, Tagged, held_in}
 use Rattle.manager_model.specs.Hosting.{Coming, call_of, fresh_manager}
-use Rattle.lease_manager.specs.Always.{BreaksToLess, HasNoConflict, HasOneWriter, IsManager, KeepsWhatLasts, OpensStandWell, NothingWaitsIdly}
+use Rattle.lease_manager.specs.Always.{BreaksToLess, HasNoConflict, HasOneWriter, IsManager, KeepsWhatLasts, OpensStandWell}
+use Rattle.lease_manager.specs.Always.{NothingWaitsIdly}
 use Rattle.lease_manager.specs.GivingUp.{extent_of}
 use Rattle.lease_laws.proofs.server.Idly.{nothing_waits}
 use Rattle.lease_manager.specs.Always.{WaitersAreConnected, WaitersWaitForBreaks}

@@ -1,5 +1,6 @@
 -- Where it is told that a request goes on, a read is sent, or a file changed; and what was given out before was told.
-use Rattle.lease_laws.proofs.Words.{◌++◌, ◌∙◌, ◌∷◌, ◌≡◌, ◌⊎◌, Among, ArePaired, List, None, Out, Patch, Reply, Some, ℕ, ⊎_elim, []}
+use Rattle.lease_laws.proofs.Words.{◌++◌, ◌∙◌, ◌∷◌, ◌≡◌, ◌⊎◌, Among, ArePaired, List, None, Out, Patch, Reply, Some, ℕ, ⊎_elim}
+use Rattle.lease_laws.proofs.Words.{[]}
 use Rattle.lease_laws.proofs.Words.{ap, ap₂, append_assoc, called, inl, inr, nothing_cached, refl, subst, sym}
 use Rattle.lease_laws.proofs.server.Changes.{breaks-come-first}
 use Rattle.lease_laws.proofs.server.Lists.{among_before, among_behind}

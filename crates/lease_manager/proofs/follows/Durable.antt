@@ -1,5 +1,6 @@
 -- An open is durable only where the answer to its create is told so.
-use Rattle.lease_laws.proofs.Words.{◌≡◌, Among, IsToldDurable, List, Open, Out, Reply, Server, Some, ⊎_elim, called, inl, inr, refl}
+use Rattle.lease_laws.proofs.Words.{◌≡◌, Among, IsToldDurable, List, Open, Out, Reply, Server, Some, ⊎_elim, called, inl, inr}
+use Rattle.lease_laws.proofs.Words.{refl}
 use Rattle.lease_laws.proofs.Words.{subst, sym}
 use Rattle.lease_laws.proofs.server.Durable.{durable-told}
 use Rattle.manager_model.specs.Decisions.{Decision, told_of}

@@ -5,19 +5,18 @@ use Rattle.lease_laws.proofs.Words.{inr, key_of_open, map, nat_cmp, nat_tests, r
 use Rattle.std.specs.BTreeMap.{is_at}
 use Rattle.std.specs.BTreeSet.{insert_key}
 use Rattle.std.specs.Prelude.{Err, Ok, OnErr, Result}
+use Rattle.std.specs.Ordering.{is_gt}
 use Rattle.std.specs.Set.{remove_key}
 use Rattle.std.specs.declared.cmp.Ordering.{Ordering}
 use Rattle.lease_laws.proofs.server.Lists.{either, among_filter, find_has}
 use Rattle.lease_manager.specs.Filed.{connected_at, file_id_order, has_id}
-use Rattle.lease_manager.specs.Sets.{values_at}
 use Rattle.lease_manager.specs.KeyOrder.{key_order}
 use Rattle.lease_manager.specs.LeftOpens.{ids_of, numbers}
 use Rattle.lease_manager.specs.OpenIndex.{AreIndexed, IsLast, client_order, is_connected, is_left, owner_order}
-use Rattle.lease_manager.specs.declared.tables.sets.Sets.{Sets}
 use Rattle.lease_manager.specs.declared.values.number.ClientNo.{ClientNo}
 use Rattle.lease_manager.specs.declared.values.owner.Owner.{Owner}
 use Rattle.lease_manager.proofs.opens.Filing.{greater, none_behind, none_changed, some_same, test_at}
-use Rattle.lease_manager.proofs.opens.LeftOpens.{equal_is, inserted_first, inserted_id, removed_id}
+use Rattle.lease_manager.proofs.opens.LeftOpens.{at_head, equal_is, inserted_first, inserted_id, removed_id}
 use Rattle.lease_manager.proofs.sums.Ordering.{has_key_own, order_eq-back}
 
 -- the open as it is where its client is there, or isn't
@@ -136,108 +135,123 @@ turned_alike n connected test (x ∷ opens) one order found alike = either (has_
 
 -- ---- the lists of all keys
 
-pub none_indexed : {K : Type 0} (order : K → K → Ordering) (test : K → Open → Bool) (ids : Sets K FileId)
-    → ((key : K) → values_at order ids key ≡ []) → AreIndexed order test ids []
-none_indexed order test ids none = λ key. rw (none key) refl
+pub none_indexed : {K : Type 0} (test : K → Open → Bool) (ids : K → List FileId)
+    → ((key : K) → ids key ≡ []) → AreIndexed test ids []
+none_indexed test ids none = λ key. rw (none key) refl
 
-pub gained : {K : Type 0} (order : K → K → Ordering) (test : K → Open → Bool) (old new : Sets K FileId) (key : K)
+pub gained : {K : Type 0} (order : K → K → Ordering) (test : K → Open → Bool) (old new : K → List FileId) (key : K)
     (fid : FileId) (opens : List Open) (one : Open) → IsLast one opens → fid.0 ≡ one.file_id
     → ((other : K) → test other one ≡ is_at (order key) other)
-    → ((other : K) → values_at order new other
-    ≡ (if is_at (order key) other then insert_key file_id_order (values_at order old other) fid else values_at order old other))
-    → AreIndexed order test old opens → AreIndexed order test new (opens ++ one ∷ [])
+    → ((other : K) → new other
+    ≡ (if is_at (order key) other then insert_key file_id_order (old other) fid else old other))
+    → AreIndexed test old opens → AreIndexed test new (opens ++ one ∷ [])
 gained order test old new key fid opens one last is stands changed indexed = λ other. either (is_at (order key) other)
-    (λ at. rw (changed other, at) (inserted_id fid (values_at order old other)
+    (λ at. rw (changed other, at) (inserted_id fid (old other)
     ∙ (ap₂ (insert_key nat_cmp) (indexed other) is ∙ last_in (test other) opens one last (stands other ∙ at))))
     (λ at. rw (changed other, at) (indexed other ∙ ap ids_of (sym (last_out (test other) opens one (stands other ∙ at)))))
 
-pub gained_nowhere : {K : Type 0} (order : K → K → Ordering) (test : K → Open → Bool) (ids : Sets K FileId) (opens : List Open)
-    (one : Open) → ((other : K) → test other one ≡ false) → AreIndexed order test ids opens
-    → AreIndexed order test ids (opens ++ one ∷ [])
-gained_nowhere order test ids opens one fails indexed = λ other.
+-- the FileId of the last open is above the first one that is listed
+pub above_first : (test : Open → Bool) (first : FileId) (others : List FileId) (fid : FileId) (opens : List Open) (one : Open)
+    → IsLast one opens → fid.0 ≡ one.file_id → numbers (first ∷ others) ≡ ids_of (filter test opens)
+    → is_gt (file_id_order fid first) ≡ true
+above_first test first others fid opens one last is same =
+    above_in (filter test opens) same (λ other a. last other (among_filter test other opens a).0)
+  where
+    above_in : (passed : List Open) → numbers (first ∷ others) ≡ ids_of passed
+        → ((other : Open) → Among other passed → other.file_id < one.file_id) → is_gt (file_id_order fid first) ≡ true
+    above_in [] same below = absurd (cc same)
+    above_in (x ∷ passed) same below =
+        let less : first.0 < fid.0 = subst (λ m. m < fid.0) (sym (at_head first others x passed same))
+        (subst (λ m. x.file_id < m) (sym is) (below x (inl refl))) in
+        ap is_gt (greater fid.0 first.0 less)
+
+pub gained_nowhere : {K : Type 0} (test : K → Open → Bool) (ids : K → List FileId) (opens : List Open)
+    (one : Open) → ((other : K) → test other one ≡ false) → AreIndexed test ids opens
+    → AreIndexed test ids (opens ++ one ∷ [])
+gained_nowhere test ids opens one fails indexed = λ other.
     indexed other ∙ ap ids_of (sym (last_out (test other) opens one (fails other)))
 
 -- the same change, of the open's own FileId
-renumbered : {K : Type 0} (order : K → K → Ordering) (old new : Sets K FileId) (key other : K) (n m : ℕ) → n ≡ m
-    → values_at order new other ≡ (if is_at (order key) other then remove_key (test_at n) (values_at order old other)
-    else values_at order old other)
-    → values_at order new other ≡ (if is_at (order key) other then remove_key (test_at m) (values_at order old other)
-    else values_at order old other)
+renumbered : {K : Type 0} (order : K → K → Ordering) (old new : K → List FileId) (key other : K) (n m : ℕ) → n ≡ m
+    → new other ≡ (if is_at (order key) other then remove_key (test_at n) (old other)
+    else old other)
+    → new other ≡ (if is_at (order key) other then remove_key (test_at m) (old other)
+    else old other)
 renumbered order old new key other n m is changed =
-    subst (λ k. values_at order new other ≡ (if is_at (order key) other then remove_key (test_at k) (values_at order old other)
-    else values_at order old other)) is changed
+    subst (λ k. new other ≡ (if is_at (order key) other then remove_key (test_at k) (old other)
+    else old other)) is changed
 
-pub lost : {K : Type 0} (order : K → K → Ordering) (test : K → Open → Bool) (old new : Sets K FileId) (key : K)
+pub lost : {K : Type 0} (order : K → K → Ordering) (test : K → Open → Bool) (old new : K → List FileId) (key : K)
     (fid : FileId) (opens : List Open) (one : Open) → fid.0 ≡ one.file_id → AreInOrder opens
     → find (has_id one.file_id) opens ≡ Some one
     → ((other : K) → is_at (order key) other ≡ false → test other one ≡ false)
-    → ((other : K) → values_at order new other
-    ≡ (if is_at (order key) other then remove_key (test_at fid.0) (values_at order old other) else values_at order old other))
-    → AreIndexed order test old opens → AreIndexed order test new (without (has_id one.file_id) opens)
+    → ((other : K) → new other
+    ≡ (if is_at (order key) other then remove_key (test_at fid.0) (old other) else old other))
+    → AreIndexed test old opens → AreIndexed test new (without (has_id one.file_id) opens)
 lost order test old new key fid opens one is rises found fails changed indexed = λ other.
     let n = one.file_id in
     let after = renumbered order old new key other fid.0 n is (changed other) in
     either (is_at (order key) other)
-    (λ at. rw (after, at) (removed_id n (values_at order old other) (filter (test other) opens) (indexed other)
+    (λ at. rw (after, at) (removed_id n (old other) (filter (test other) opens) (indexed other)
     (in_order_filter (test other) opens rises) ∙ ap ids_of (sym (filter_without n (test other) opens))))
     (λ at. rw (after, at) (indexed other ∙ (ap ids_of (sym (none_passes n (test other) opens one rises found
     (fails other at))) ∙ ap ids_of (sym (filter_without n (test other) opens)))))
 
-pub lost_nowhere : {K : Type 0} (order : K → K → Ordering) (test : K → Open → Bool) (ids : Sets K FileId) (n : ℕ)
+pub lost_nowhere : {K : Type 0} (test : K → Open → Bool) (ids : K → List FileId) (n : ℕ)
     (opens : List Open) (one : Open) → AreInOrder opens → find (has_id n) opens ≡ Some one
-    → ((other : K) → test other one ≡ false) → AreIndexed order test ids opens
-    → AreIndexed order test ids (without (has_id n) opens)
-lost_nowhere order test ids n opens one rises found fails indexed = λ other.
+    → ((other : K) → test other one ≡ false) → AreIndexed test ids opens
+    → AreIndexed test ids (without (has_id n) opens)
+lost_nowhere test ids n opens one rises found fails indexed = λ other.
     indexed other ∙ (ap ids_of (sym (none_passes n (test other) opens one rises found (fails other)))
     ∙ ap ids_of (sym (filter_without n (test other) opens)))
 
-pub turned_on : {K : Type 0} (order : K → K → Ordering) (test : K → Open → Bool) (old new : Sets K FileId) (key : K)
+pub turned_on : {K : Type 0} (order : K → K → Ordering) (test : K → Open → Bool) (old new : K → List FileId) (key : K)
     (fid : FileId) (connected : Bool) (opens : List Open) (one : Open) → fid.0 ≡ one.file_id → AreInOrder opens
     → find (has_id one.file_id) opens ≡ Some one
     → ((other : K) → is_at (order key) other ≡ true → test other (now connected one) ≡ true)
     → ((other : K) → is_at (order key) other ≡ false → test other (now connected one) ≡ test other one)
-    → ((other : K) → values_at order new other
-    ≡ (if is_at (order key) other then insert_key file_id_order (values_at order old other) fid else values_at order old other))
-    → AreIndexed order test old opens → AreIndexed order test new (map (connected_at one.file_id connected) opens)
+    → ((other : K) → new other
+    ≡ (if is_at (order key) other then insert_key file_id_order (old other) fid else old other))
+    → AreIndexed test old opens → AreIndexed test new (map (connected_at one.file_id connected) opens)
 turned_on order test old new key fid connected opens one is rises found passes alike changed indexed = λ other.
     either (is_at (order key) other)
-    (λ at. rw (changed other, at) (inserted_id fid (values_at order old other)
+    (λ at. rw (changed other, at) (inserted_id fid (old other)
     ∙ (ap₂ (insert_key nat_cmp) (indexed other) is
     ∙ turned_in one.file_id connected (test other) opens one rises found (passes other at))))
     (λ at. rw (changed other, at) (indexed other
     ∙ sym (turned_alike one.file_id connected (test other) opens one rises found (alike other at))))
 
-pub turned_off : {K : Type 0} (order : K → K → Ordering) (test : K → Open → Bool) (old new : Sets K FileId) (key : K)
+pub turned_off : {K : Type 0} (order : K → K → Ordering) (test : K → Open → Bool) (old new : K → List FileId) (key : K)
     (fid : FileId) (connected : Bool) (opens : List Open) (one : Open) → fid.0 ≡ one.file_id → AreInOrder opens
     → find (has_id one.file_id) opens ≡ Some one
     → ((other : K) → is_at (order key) other ≡ true → test other (now connected one) ≡ false)
     → ((other : K) → is_at (order key) other ≡ false → test other (now connected one) ≡ test other one)
-    → ((other : K) → values_at order new other
-    ≡ (if is_at (order key) other then remove_key (test_at fid.0) (values_at order old other) else values_at order old other))
-    → AreIndexed order test old opens → AreIndexed order test new (map (connected_at one.file_id connected) opens)
+    → ((other : K) → new other
+    ≡ (if is_at (order key) other then remove_key (test_at fid.0) (old other) else old other))
+    → AreIndexed test old opens → AreIndexed test new (map (connected_at one.file_id connected) opens)
 turned_off order test old new key fid connected opens one is rises found fails alike changed indexed = λ other.
     let n = one.file_id in
     let after = renumbered order old new key other fid.0 n is (changed other) in
     either (is_at (order key) other)
-    (λ at. rw (after, at) (removed_id n (values_at order old other) (filter (test other) opens) (indexed other)
+    (λ at. rw (after, at) (removed_id n (old other) (filter (test other) opens) (indexed other)
     (in_order_filter (test other) opens rises)
     ∙ ap ids_of (sym (turned_out n connected (test other) opens one rises found (fails other at)))))
     (λ at. rw (after, at) (indexed other
     ∙ sym (turned_alike n connected (test other) opens one rises found (alike other at))))
 
-pub turned_nowhere : {K : Type 0} (order : K → K → Ordering) (test : K → Open → Bool) (ids : Sets K FileId) (n : ℕ)
+pub turned_nowhere : {K : Type 0} (test : K → Open → Bool) (ids : K → List FileId) (n : ℕ)
     (connected : Bool) (opens : List Open) (one : Open) → AreInOrder opens → find (has_id n) opens ≡ Some one
     → ((other : K) → test other (now connected one) ≡ test other one)
-    → AreIndexed order test ids opens → AreIndexed order test ids (map (connected_at n connected) opens)
-turned_nowhere order test ids n connected opens one rises found alike indexed = λ other.
+    → AreIndexed test ids opens → AreIndexed test ids (map (connected_at n connected) opens)
+turned_nowhere test ids n connected opens one rises found alike indexed = λ other.
     indexed other ∙ sym (turned_alike n connected (test other) opens one rises found (alike other))
 
 -- ---- a refused insertion
 
-pub unchanged : {K : Type 0} (order : K → K → Ordering) (test : K → Open → Bool) (old new : Sets K FileId) (opens : List Open)
-    → ((key : K) → values_at order new key ≡ values_at order old key)
-    → AreIndexed order test old opens → AreIndexed order test new opens
-unchanged order test old new opens same indexed = λ key. ap numbers (same key) ∙ indexed key
+pub unchanged : {K : Type 0} (test : K → Open → Bool) (old new : K → List FileId) (opens : List Open)
+    → ((key : K) → new key ≡ old key)
+    → AreIndexed test old opens → AreIndexed test new opens
+unchanged test old new opens same indexed = λ key. ap numbers (same key) ∙ indexed key
 
 pub refused_so : {A E P : Type 0} (result : Result A E) → P → OnErr result P
 refused_so (Ok value) p = tt

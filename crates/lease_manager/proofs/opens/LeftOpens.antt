@@ -16,11 +16,11 @@ use Rattle.lease_manager.specs.Looks.{is_elsewhere, is_left_by}
 
 -- ---- lists of numbers
 
-at_head : (x : FileId) (xs : List FileId) (one : Open) (opens : List Open)
+pub at_head : (x : FileId) (xs : List FileId) (one : Open) (opens : List Open)
     → numbers (x ∷ xs) ≡ ids_of (one ∷ opens) → x.0 ≡ one.file_id
 at_head x xs one opens same = ap (λ l. get_or l 0 0) same
 
-behind_head : (x : FileId) (xs : List FileId) (one : Open) (opens : List Open)
+pub behind_head : (x : FileId) (xs : List FileId) (one : Open) (opens : List Open)
     → numbers (x ∷ xs) ≡ ids_of (one ∷ opens) → numbers xs ≡ ids_of opens
 behind_head x xs one opens same = ap (λ l. drop 1 l) same
 
@@ -79,7 +79,7 @@ first_waiting ids test opens same = first_mapped ids ∙ (ap (λ l. slice_get l 
     first_open [] = refl
     first_open (x ∷ xs) = refl
 
-found_itself : (opens : List Open) (one : Open) → AreInOrder opens → Among one opens → find (has_id one.file_id) opens ≡ Some one
+pub found_itself : (opens : List Open) (one : Open) → AreInOrder opens → Among one opens → find (has_id one.file_id) opens ≡ Some one
 found_itself [] one order among = absurd among
 found_itself (x ∷ opens) one order (inl same) = grind arith
 found_itself (x ∷ opens) one order (inr among) =

@@ -10,7 +10,8 @@ use Rattle.lease_laws.proofs.server.Lists.{among_filter, either}
 use Rattle.lease_manager.specs.Filed.{has_id}
 use Rattle.lease_manager.specs.Kept.{HaveClosed, disconnected_where, is_one_of, listed}
 use Rattle.lease_manager.specs.LeftOpens.{ids_of, numbers}
-use Rattle.lease_manager.specs.Parting.{IsParted, found_by, is_connected_named, is_connected_of, is_kept_of, is_lasting, is_so, outlives_by}
+use Rattle.lease_manager.specs.Parting.{IsParted, found_by, is_connected_named, is_connected_of, is_kept_of, is_lasting, is_so}
+use Rattle.lease_manager.specs.Parting.{outlives_by}
 use Rattle.lease_manager.specs.Summaries.{lease_in}
 use Rattle.lease_manager.specs.Table.{Table, lease_at, server_of}
 use Rattle.lease_manager.specs.declared.tables.parting.Parted.{Parted}
@@ -142,7 +143,7 @@ none_named client (x ∷ opens) =
 
 -- ---- those that end, and those that are kept
 
-outlives_so : (server : Server) (one : Open) → outlives_by server.leases one ≡ outlives_connection server one
+pub outlives_so : (server : Server) (one : Open) → outlives_by server.leases one ≡ outlives_connection server one
 outlives_so server one = grind arith
 
 filter_both : (f g : Open → Bool) (opens : List Open) → filter g (filter f opens) ≡ filter (λ o. f o && g o) opens

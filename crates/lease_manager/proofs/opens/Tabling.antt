@@ -1,8 +1,9 @@
 -- The tables' opens and lease records as the server that they stand for.
-use Rattle.lease_laws.proofs.Words.{◌++◌, ◌+◌, ◌<◌, ◌^◌, ◌||◌, ◌∙◌, ◌∷◌, ◌≡◌, ◌≤◌, Among, AreInOrder, Bool}
+use Rattle.lease_laws.proofs.Words.{◌++◌, ◌<◌, ◌^◌, ◌||◌, ◌∙◌, ◌∷◌, ◌≡◌, ◌≤◌, Among, AreInOrder, Bool}
 use Rattle.lease_laws.proofs.Words.{Decides-eqb, Key, Lease, List, None, Open, Option, Server, Some, ℕ, ⊎_elim, [], ap}
 use Rattle.lease_laws.proofs.Words.{append-nil, ap₂, arith, awaits, false, filter, find, fun_ext, has_key}
-use Rattle.lease_laws.proofs.Words.{if◌then◌else◌, inl, inr, is_at, is_key, is_leased_elsewhere, is_left_behind, key_eq, length}
+use Rattle.lease_laws.proofs.Words.{if◌then◌else◌, inl, inr, is_at, is_breaking, is_key, is_leased_elsewhere, is_left_behind}
+use Rattle.lease_laws.proofs.Words.{key_eq, length}
 use Rattle.lease_laws.proofs.Words.{list_any, map, nat_tests, no_lease, not, put_key, refl, subst, sym, true}
 use Rattle.lease_laws.proofs.Words.{with_lease, with_opens, without}
 use Rattle.std.specs.Map.{lookup}
@@ -15,6 +16,7 @@ use Rattle.lease_manager.specs.KeyOrder.{key_order}
 use Rattle.lease_manager.specs.Kept.{listed, AreKept, HaveClosed, is_one_of, disconnected_where, lease_put_by, opened_with}
 use Rattle.lease_manager.specs.Leases.{lease_of}
 use Rattle.lease_manager.specs.Looks.{is_connected_as, is_elsewhere}
+use Rattle.lease_manager.specs.StillWaiting.{AreSettled}
 use Rattle.lease_manager.specs.Summaries.{Agrees, IsOneMore, StandFor, lease_in, lease_or_none}
 use Rattle.lease_manager.specs.Table.{Table, KeyedLease, lease_at, server_of}
 use Rattle.lease_manager.specs.declared.tables.summaries.LeaseRecord.{LeaseRecord}
@@ -243,15 +245,15 @@ table_opened table one lease summaries after same now =
     (λ key. listed_lease after key ∙ (now key ∙ ap (λ l. if has_key key one then lease else l)
     (sym (listed_lease summaries key) ∙ ap (λ l. lease_at l key) (sym same))))
 
-below_next : (one : Open) (last next : ℕ) → one.file_id ≤ last → next ≡ last + 1 → one.file_id < next
+below_next : (one : Open) (last next : ℕ) → one.file_id ≤ last → last < next → one.file_id < next
 below_next one last next low is = omega (arith, low, is)
 
-pub below_new : (opens : List Open) (summaries : Summaries) (last next : ℕ) → AreKept opens summaries last → next ≡ last + 1
+pub below_new : (opens : List Open) (summaries : Summaries) (last next : ℕ) → AreKept opens summaries last → last < next
     → (other : Open) → Among other opens → other.file_id < next
 below_new opens summaries last next kept is = λ other a. below_next other last next (kept.numbered other a) is
 
 pub kept_opened : (opens : List Open) (one : Open) (summaries after : Summaries) (last : ℕ) → AreKept opens summaries last
-    → one.file_id ≡ last + 1 → Agrees after (opens ++ one ∷ []) → AreKept (opens ++ one ∷ []) after one.file_id
+    → last < one.file_id → Agrees after (opens ++ one ∷ []) → AreKept (opens ++ one ∷ []) after one.file_id
 kept_opened opens one summaries after last kept is agree = record {
   agree = agree;
   numbered = λ other a. ⊎_elim
@@ -294,6 +296,19 @@ disconnected_none (one ∷ opens) = ap (λ x. one ∷ x) (disconnected_none open
 pub same_id_where : (test : Open → Bool) (b : Bool) (one : Open)
     → (if test one then record one { connected = b } else one).file_id ≡ one.file_id
 same_id_where test b one = either (test one) (λ t. rw t refl) (λ t. rw t refl)
+
+pub kept_raised : (opens : List Open) (summaries : Summaries) (last next : ℕ) → AreKept opens summaries last → last ≤ next
+    → AreKept opens summaries next
+kept_raised opens summaries last next kept less = record {
+  agree = kept.agree;
+  numbered = λ one a. let low = kept.numbered one a in omega (arith, low, less);
+}
+
+-- where no lease is breaking, no open of one that is waits for its client
+pub unbroken_settled : (known : Bool) (opens : List Open) (summaries : Summaries)
+    → ((key : Key) → is_breaking (lease_at (listed summaries) key) ≡ false) → AreSettled known opens (lease_in summaries)
+unbroken_settled known opens summaries none = λ yes key breaks.
+    clash (is_breaking (lease_in summaries key)) breaks (ap is_breaking (sym (listed_lease summaries key)) ∙ none key)
 
 -- ---- looks at the open of a FileId
 
@@ -363,7 +378,7 @@ short_more opens one n is small =
     omega (arith, e, is, small)
 
 pub opened_now : (opens now : List Open) (one : Open) (summaries after : Summaries) (last : ℕ) → AreKept opens summaries last
-    → one.file_id ≡ last + 1 → now ≡ opens ++ one ∷ [] → Agrees after now → AreKept now after one.file_id
+    → last < one.file_id → now ≡ opens ++ one ∷ [] → Agrees after now → AreKept now after one.file_id
 opened_now opens now one summaries after last kept is same agree = subst (λ xs. AreKept xs after one.file_id) (sym same)
     (kept_opened opens one summaries after last kept is (subst (Agrees after) same agree))
 

@@ -12,7 +12,8 @@ use Rattle.std.specs.List.Sorted.{IsStrictlySortedBy}
 use Rattle.std.specs.Ordering.{is_lt}
 use Rattle.lease_laws.proofs.server.Keys.{key_eq-same, key_eq-refl, lease_by-key, is_key-one, is_key-refl}
 use Rattle.lease_laws.proofs.server.KeyOrder.{keys_of-all, among_mapped}
-use Rattle.lease_laws.proofs.server.Lists.{either, clash, and_parts, and_both, not_parts, not_true, any_has, has_any, none_has, among_filter}
+use Rattle.lease_laws.proofs.server.Lists.{either, clash, and_parts, and_both, not_parts, not_true, any_has, has_any, none_has}
+use Rattle.lease_laws.proofs.server.Lists.{among_filter}
 use Rattle.lease_laws.proofs.server.Lists.{among_filtered}
 use Rattle.lease_laws.proofs.server.Wanted.{wants_where-exact, key_before-then, key_before-self}
 use Rattle.lease_laws.proofs.server.Wants.{keys_of-has}

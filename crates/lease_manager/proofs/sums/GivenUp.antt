@@ -1,5 +1,6 @@
 -- Nothing is in the way of a change where no lease hinders it and none caches writes.
-use Rattle.lease_laws.proofs.Words.{◌&&◌, ◌||◌, ◌∙◌, ◌∷◌, ◌≡◌, Bool, Key, List, Open, Option, Server, ℕ, [], ap, arith, false, is_other_on}
+use Rattle.lease_laws.proofs.Words.{◌&&◌, ◌||◌, ◌∙◌, ◌∷◌, ◌≡◌, Bool, Key, List, Open, Option, Server, ℕ, [], ap, arith, false}
+use Rattle.lease_laws.proofs.Words.{is_other_on}
 use Rattle.lease_laws.proofs.Words.{lease_of_open, list_any, not, refl, sym, true}
 use Rattle.lease_model.specs.server.GivingUp.{Extent, is_given_up}
 use Rattle.lease_manager.specs.Hindering.{hinders_writes, is_hinderer}

@@ -22,7 +22,8 @@ use Rattle.lease_manager.specs.Remaining.{own_remaining, remains}
 use Rattle.lease_manager.specs.Wanted.{is_own_key, is_hindering, own_hindering}
 use Rattle.lease_manager.specs.declared.tables.file_summary.FileSummary.{FileSummary}
 use Rattle.lease_manager.specs.declared.tables.summaries.Summaries.{Summaries}
-use Rattle.lease_manager.proofs.sums.Demanding.{filter_ordered, sorted_ordered, one_list, member, among_members, both_so, all_counted}
+use Rattle.lease_manager.proofs.sums.Demanding.{filter_ordered, sorted_ordered, one_list, member, among_members, both_so}
+use Rattle.lease_manager.proofs.sums.Demanding.{all_counted}
 use Rattle.lease_manager.proofs.sums.Demanding.{others_counted, key_there, other_on, on_other, other_here}
 use Rattle.lease_manager.proofs.sums.Ordering.{order_eq}
 

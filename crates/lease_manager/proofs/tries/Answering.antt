@@ -1,6 +1,7 @@
 -- Writes that go on, and requests that are refused, as they are told.
 use Rattle.lease_laws.proofs.Words.{◌++◌, ◌==◌, ◌∙◌, ◌∷◌, ◌≡◌, Bool, List, None, Open, Option, Out, Reply, Server, Some, ℕ}
-use Rattle.lease_laws.proofs.Words.{[], ap, append_assoc, arith, changed, fun_ext, is_within_limit, on_open, option_map, put, refl, sym, true}
+use Rattle.lease_laws.proofs.Words.{[], ap, append_assoc, arith, changed, fun_ext, is_within_limit, on_open, option_map, put}
+use Rattle.lease_laws.proofs.Words.{refl, sym, true}
 use Rattle.lease_laws.proofs.server.Lists.{either}
 use Rattle.lease_manager.specs.Outs.{progress_of}
 use Rattle.lease_manager.specs.Requests.{patch_like}

@@ -1,5 +1,6 @@
 -- A request that comes, as it is told.
-use Rattle.lease_laws.proofs.Words.{◌++◌, ◌∙◌, ◌∷◌, ◌≡◌, FileRequest, Lane, List, Ok, Err, Out, Outcome, Progress, Server, Status, Tried, ℕ, []}
+use Rattle.lease_laws.proofs.Words.{◌++◌, ◌∙◌, ◌∷◌, ◌≡◌, FileRequest, Lane, List, Ok, Err, Out, Outcome, Progress, Server}
+use Rattle.lease_laws.proofs.Words.{Status, Tried, ℕ, []}
 use Rattle.lease_laws.proofs.Words.{Result, ap, arith, begun, concluded, ended, false, held_of, is_behind, lane_of}
 use Rattle.lease_laws.proofs.Words.{map-append, put, refusal_of, sym, tried, true}
 use Rattle.manager_model.specs.Decisions.{Decision, told_of}

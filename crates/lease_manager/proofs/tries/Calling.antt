@@ -1,5 +1,6 @@
 -- Calls, as they are told.
-use Rattle.lease_laws.proofs.Words.{◌++◌, ◌==◌, ◌∙◌, ◌∷◌, ◌≡◌, AreInOrder, Bool, Held, Key, List, Open, Out, Progress, Server, ℕ, []}
+use Rattle.lease_laws.proofs.Words.{◌++◌, ◌==◌, ◌∙◌, ◌∷◌, ◌≡◌, AreInOrder, Bool, Held, Key, List, Open, Out, Progress, Server}
+use Rattle.lease_laws.proofs.Words.{ℕ, []}
 use Rattle.lease_laws.proofs.Words.{ap, begun, client_forgotten, false, filter, fun_ext}
 use Rattle.lease_laws.proofs.Words.{join, joined, key_expired, map, opens_dropped, put, refl, sym, true, without}
 use Rattle.lease_laws.proofs.server.Lists.{either}

@@ -21,7 +21,8 @@ use Rattle.lease_manager.specs.Table.{Table, held_at, lease_at, server_of}
 use Rattle.lease_manager.specs.declared.tables.summaries.Summaries.{Summaries}
 use Rattle.lease_manager.specs.declared.tables.waiting.Waiting.{Waiting}
 use Rattle.lease_manager.proofs.sums.Recording.{lease_unused}
-use Rattle.lease_manager.proofs.waits.StillWaiting.{HasNoSpare, in_vain, decider, waits_decided, waits_really, about_same, none_counted}
+use Rattle.lease_manager.proofs.waits.StillWaiting.{HasNoSpare, in_vain, decider, waits_decided, waits_really, about_same}
+use Rattle.lease_manager.proofs.waits.StillWaiting.{none_counted}
 use Rattle.lease_manager.proofs.waits.StillWaiting.{counted_before}
 use Rattle.lease_manager.proofs.waits.OneFile.{none_within, waits_here_only, waits_there_too}
 use Rattle.lease_manager.proofs.opens.Tabling.{leases_are, listed_lease, one_more}

@@ -1,5 +1,6 @@
 -- What waits on the files, as it is listed.
-use Rattle.lease_laws.proofs.Words.{◌++◌, ◌<◌, ◌==◌, ◌∙◌, ◌∷◌, ◌≡◌, ◌≤◌, Among, Bool, Decides-eqb, Less, List, ℕ, ⊎_elim, ⊤, [], ap}
+use Rattle.lease_laws.proofs.Words.{◌++◌, ◌<◌, ◌==◌, ◌∙◌, ◌∷◌, ◌≡◌, ◌≤◌, Among, Bool, Decides-eqb, Less, List, ℕ, ⊎_elim, ⊤}
+use Rattle.lease_laws.proofs.Words.{[], ap}
 use Rattle.lease_laws.proofs.Words.{ap₂, append-nil, arith, false, filter, filter-append, inl, inr, map, nat_tests, refl, subst}
 use Rattle.lease_laws.proofs.Words.{sym, true}
 use Rattle.lease_laws.proofs.server.KeyOrder.{among_mapped}

@@ -16,7 +16,8 @@ use Rattle.manager_model.specs.Handling.{Manager, Tagged, held_in, is_left, is_o
 use Rattle.manager_model.specs.Hosting.{fresh_manager}
 use Rattle.lease_manager.specs.Queues.{all_without, file_numbers, filed, is_file, queue_in, waiting_or_none}
 use Rattle.lease_manager.specs.Summaries.{file_order}
-use Rattle.lease_manager.specs.Table.{Queue, Table, client_gone, held_at, is_among, manager_of, queue_at, requeued, server_of, requests_gone}
+use Rattle.lease_manager.specs.Table.{Queue, Table, client_gone, held_at, is_among, manager_of, queue_at, requeued, server_of}
+use Rattle.lease_manager.specs.Table.{requests_gone}
 use Rattle.lease_manager.specs.StillWaiting.{AreCounted, HaveForgottenQueues, count_in}
 use Rattle.lease_manager.proofs.waits.Counted.{IsQueuePut, Known}
 use Rattle.lease_manager.proofs.waits.StillWaiting.{none_counted}
@@ -366,7 +367,7 @@ forgotten_in before after files test are gone = queues_are after ∙ (sym gone
     ∙ ap (λ (q : ℕ → List Tagged). λ file. without test (q file)) (sym (queues_are before))))
 
 -- a queue that loses none is as it was
-loses_none : (test : Tagged → Bool) (queue : List Tagged) → list_any test queue ≡ false → without test queue ≡ queue
+pub loses_none : (test : Tagged → Bool) (queue : List Tagged) → list_any test queue ≡ false → without test queue ≡ queue
 loses_none test [] none = refl
 loses_none test (one ∷ queue) none = either (test one)
     (λ t. absurd (cc (rw t at none)))

@@ -1,6 +1,6 @@
 ghost use Rattle.std.specs.Prelude.{◌≡◌, ◌+◌, ◌<◌, ◌++◌, ◌==◌, [], ◌∷◌};
 ghost use Rattle.std.specs.Prelude.{true, not, filter, map, IfOk, OnOk, length, List, Some, vec_len, if◌then◌else◌};
-ghost use Rattle.std.specs.Prelude.{ℕ, false};
+ghost use Rattle.std.specs.Prelude.{◌≤◌, ℕ, false};
 ghost use Rattle.std.specs.List.{remove, slice_get, list_any};
 ghost use Rattle.lease_laws.specs.server.Laws.{Among, AreInOrder};
 ghost use Rattle.lease_model.specs.server.Grant.{connected_again};
@@ -12,7 +12,7 @@ ghost use Rattle.lease_model.specs.values.Keys.{Key};
 ghost use Rattle.lease_model.specs.values.Lists.{without};
 ghost use Rattle.lease_model.specs.values.Tables.{put, put_key};
 ghost use Rattle.lease_manager.specs.Closing.{closes};
-ghost use Rattle.lease_manager.specs.Filed.{has_id};
+ghost use Rattle.lease_manager.specs.Filed.{disconnected_at, has_id};
 ghost use Rattle.lease_manager.specs.LeftOpens.{ids_of, numbers};
 ghost use Rattle.lease_manager.specs.Kept.{opened_with, HaveClosed, is_one_of, disconnected_where};
 ghost use Rattle.lease_manager.specs.Leases.{lease_of};
@@ -181,15 +181,15 @@ impl Tables {
         self.last_id
     }
 
-    /// One more open, whose client is there, which has the next FileId, and whose key has no open on
-    /// another file. The lease of its key becomes this one.
+    /// One more open, whose client is there, whose FileId comes after that given last, and whose key has no open on another
+    /// file. The lease of its key becomes this one.
     ///
     /// # Errors
     ///
     /// `Memory` where there is none left; no open is left then.
     pub fn open(&mut self, one: OpenEntry, lease: HeldLease) -> Result<(), Memory>
         requires here { one.connected ≡ true }
-        requires next { one.file_id ≡ (server_of self.old).last_id + 1 }
+        requires next { (server_of self.old).last_id < one.file_id }
         requires home { IsAtHome (key_of_open one) one.file (server_of self.old).opens }
         ensures changed { OnOk result (server_of self.new ≡ opened_with (server_of self.old) one (lease_of lease)) }
         ensures queues { OnOk result (self.new.queues ≡ self.old.queues) }
@@ -212,6 +212,38 @@ impl Tables {
             }
             Err(memory) => {
                 self.waiting.clear();
+                forget_opens(&mut self.opens, &mut self.summaries, alloc);
+                Err(memory)
+            }
+        }
+    }
+
+    /// This FileId was given last, where none after it was.
+    pub fn raise_last_id(&mut self, last: FileId)
+        requires { (server_of self.old).last_id ≤ last.0 }
+        ensures changed { server_of self.new ≡ record (server_of self.old) { last_id = last.0 } }
+        ensures queues { self.new.queues ≡ self.old.queues }
+    {
+        self.last_id = last.0;
+    }
+
+    /// The open of this FileId waits for its client. No lease is breaking.
+    ///
+    /// # Errors
+    ///
+    /// `Memory` where there is none left for it; no open is left then.
+    pub fn disconnect(&mut self, fid: FileId) -> Result<(), Memory>
+        requires unbroken { (key : Key) → is_breaking ((server_of self.old).leases key) ≡ false }
+        ensures changed { OnOk result (server_of self.new ≡ record (server_of self.old) {
+          opens = map (disconnected_at fid.0) (server_of self.old).opens;
+        }) }
+        ensures queues { OnOk result (self.new.queues ≡ self.old.queues) }
+    {
+        let alloc = self.alloc();
+        self.waiting.clear();
+        match self.opens.disconnect(alloc, fid) {
+            Ok(()) => Ok(()),
+            Err(memory) => {
                 forget_opens(&mut self.opens, &mut self.summaries, alloc);
                 Err(memory)
             }
@@ -319,10 +351,10 @@ fn forget_queue(queues: &mut Queues, waiting: &mut Waiting, file: FileNo, client
         ≡ (if other == file.0 then without (is_of client.0) (queue_in queues.old file.0) else queue_in queues.old other) }
     ensures known { HaveForgottenQueues (queue_in queues.old) (queue_in queues.new) waiting.old waiting.new }
 {
-    if is_any_of(queues.at(file), client) {
+    if queues.has_of(file, client) {
         waiting.forget(file);
-        queues.forget(file, client);
     }
+    queues.forget(file, client);
 }
 
 // The requests of the client under these tags no longer wait on these files.
@@ -400,17 +432,10 @@ fn leave_queue(
         then without (is_left client.0 (tag_numbers tags.now)) (queue_in queues.old file.0) else queue_in queues.old other) }
     ensures known { HaveForgottenQueues (queue_in queues.old) (queue_in queues.new) waiting.old waiting.new }
 {
-    if is_any_of(queues.at(file), client) {
+    if queues.has_of(file, client) {
         waiting.forget(file);
         queues.leave(file, client, tags);
     }
-}
-
-// Whether a request of the client is among these.
-fn is_any_of(queue: &[Held], client: ClientNo) -> bool
-    ensures { result ≡ list_any (is_of client.0) queue.now }
-{
-    queue.iter().any(|one| one.client == client)
 }
 
 // The client is no longer connected.

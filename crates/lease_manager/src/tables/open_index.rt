@@ -4,6 +4,7 @@ ghost use Rattle.lease_laws.specs.server.Laws.{AreInOrder};
 ghost use Rattle.lease_model.specs.server.State.{Open, has_key};
 ghost use Rattle.lease_model.specs.values.Lists.{without};
 ghost use Rattle.lease_manager.specs.Filed.{connected_at, has_id};
+ghost use Rattle.lease_manager.specs.Multimaps.{listed_at};
 ghost use Rattle.lease_manager.specs.Sets.{values_or_none};
 ghost use Rattle.lease_manager.specs.KeyOrder.{key_order};
 ghost use Rattle.lease_manager.specs.LeftOpens.{ids_of, numbers};
@@ -11,6 +12,7 @@ ghost use Rattle.lease_manager.specs.Looks.{is_left_by};
 ghost use Rattle.lease_manager.specs.OpenIndex.{AreIndexed, IsIndexOf, IsLast};
 ghost use Rattle.lease_manager.specs.Parting.{is_connected_of};
 
+use crate::tables::multimap::Multimap;
 use crate::tables::sets::Sets;
 use crate::values::key::LeaseName;
 use crate::values::number::ClientNo;
@@ -29,7 +31,7 @@ pub struct OpenIndex {
     /// The opens that wait for their clients (MS-SMB2 3.3.7.1), by client and file.
     left: Sets<Owner, FileId>,
     /// The opens that have a lease, by its key.
-    leased: Sets<LeaseName, FileId>,
+    leased: Multimap<LeaseName, FileId>,
 }
 
 impl OpenIndex {
@@ -40,7 +42,7 @@ impl OpenIndex {
         OpenIndex {
             connected: Sets::new(alloc),
             left: Sets::new(alloc),
-            leased: Sets::new(alloc),
+            leased: Multimap::new(alloc),
         }
     }
 
@@ -134,12 +136,12 @@ impl OpenIndex {
 
 // One more open is listed under its key, if it has one.
 fn gain_key(
-    leased: &mut Sets<LeaseName, FileId>,
+    leased: &mut Multimap<LeaseName, FileId>,
     alloc: Global,
     one: &OpenEntry,
 ) -> Result<(), Memory>
-    ensures { OnOk result ((opens : List Open) → IsLast one.now opens → AreIndexed key_order has_key leased.old opens
-        → AreIndexed key_order has_key leased.new (opens ++ one.now ∷ [])) }
+    ensures { OnOk result ((opens : List Open) → IsLast one.now opens → AreIndexed has_key (listed_at key_order leased.old) opens
+        → AreIndexed has_key (listed_at key_order leased.new) (opens ++ one.now ∷ [])) }
 {
     match one.key() {
         Some(key) => leased.insert(alloc, key, one.file_id),
@@ -148,10 +150,10 @@ fn gain_key(
 }
 
 // An open is no longer listed under its key.
-fn lose_key(leased: &mut Sets<LeaseName, FileId>, one: &OpenEntry)
+fn lose_key(leased: &mut Multimap<LeaseName, FileId>, one: &OpenEntry)
     ensures { (opens : List Open) → AreInOrder opens → find (has_id one.now.file_id) opens ≡ Some one.now
-        → AreIndexed key_order has_key leased.old opens
-        → AreIndexed key_order has_key leased.new (without (has_id one.now.file_id) opens) }
+        → AreIndexed has_key (listed_at key_order leased.old) opens
+        → AreIndexed has_key (listed_at key_order leased.new) (without (has_id one.now.file_id) opens) }
 {
     match one.key() {
         Some(key) => leased.remove(key, one.file_id),

@@ -12,13 +12,16 @@ ghost use Rattle.lease_manager.specs.Parting.{is_connected_named, is_connected_o
 ghost use Rattle.lease_manager.specs.LeftOpens.{has_key_in, ids_of, numbers};
 ghost use Rattle.lease_manager.specs.OpenIndex.{IsIndexOf, IsLast};
 ghost use Rattle.lease_manager.specs.Listing.{open_of};
-ghost use Rattle.lease_manager.specs.Looks.{is_left_by};
+ghost use Rattle.lease_manager.specs.Looks.{file_found, is_left_by};
+ghost use Rattle.lease_manager.specs.Queues.{file_numbers};
+ghost use Rattle.lease_manager.specs.Restarting.{pair_kept, pairs_in};
 ghost use Rattle.lease_manager.specs.Summaries.{Agrees, IsOneMore, lease_in};
 ghost use Rattle.std.specs.Map.{values_of};
 
 use crate::tables::open_index::OpenIndex;
 use crate::tables::summaries::Summaries;
 use crate::values::closing::Closing;
+use crate::values::kept::KeptOpen;
 use crate::values::key::LeaseName;
 use crate::values::number::{ClientNo, FileNo};
 use crate::values::open::{ListedOpen, OpenEntry};
@@ -84,6 +87,25 @@ impl Opens {
             opens.push(one.listed())?;
         }
         Ok(opens)
+    }
+
+    /// Those that outlive a connection, where these are the leases, as they are kept over a restart, in the order of their
+    /// FileIds.
+    ///
+    /// # Errors
+    ///
+    /// `Memory` where there is none left for the list.
+    pub fn kept(&self, alloc: Global, leases: &Summaries) -> Result<Vec<KeptOpen>, Memory>
+        ensures { IfOk result (λ kept. map pair_kept kept.items ≡ pairs_in (lease_in leases.now) self.now) }
+    {
+        let mut kept = Vec::new(alloc);
+        for one in self.by_id.values() {
+            match one.kept(leases.under(one)) {
+                Some(open) => kept.push(open)?,
+                None => {}
+            }
+        }
+        Ok(kept)
     }
 
     /// One more open, whose client is there, and whose FileId is above those of all others.
@@ -280,6 +302,42 @@ impl Opens {
         ensures in_order { AreInOrder self.now }
     {
         self.index.of_client(alloc, client)
+    }
+
+    /// The files of the client's connected opens, in the order of their FileIds.
+    ///
+    /// # Errors
+    ///
+    /// `Memory` where there is none left for the list.
+    pub fn files_of_client(&self, alloc: Global, client: ClientNo) -> Result<Vec<FileNo>, Memory>
+        ensures { IfOk result (λ files. file_numbers files.items
+            ≡ map (λ one. one.file) (filter (is_connected_of client.0) self.now)) }
+    {
+        let ids = self.of_client(alloc, client)?;
+        let files = self.files_of(alloc, &ids)?;
+        Ok(files)
+    }
+
+    // The files of the opens of these FileIds.
+    fn files_of(&self, alloc: Global, ids: &[FileId]) -> Result<Vec<FileNo>, Memory>
+        ensures { IfOk result (λ files. file_numbers files.items
+            ≡ map (λ (fid : FileId). file_found (find (has_id fid.0) self.now)) ids.now) }
+    {
+        let mut files = Vec::new(alloc);
+        for fid in ids {
+            files.push(self.file_of(*fid))?;
+        }
+        Ok(files)
+    }
+
+    // The file of the open of this FileId; 0 where there is none.
+    fn file_of(&self, fid: FileId) -> FileNo
+        ensures { result.0 ≡ file_found (find (has_id fid.0) self.now) }
+    {
+        match self.find(fid) {
+            Some(one) => one.file,
+            None => FileNo(0),
+        }
     }
 
     /// Those of the FileIds by which the client has a connected open, each once, in their order.

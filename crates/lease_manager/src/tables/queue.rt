@@ -10,6 +10,7 @@ use crate::values::open::OpenEntry;
 use crate::values::request::Held;
 use lease_state::Memory;
 use std::alloc::Global;
+use std::collections::BTreeSet;
 use std::marker::Model;
 
 /// What waits on a file, in order of arrival.
@@ -20,17 +21,21 @@ pub struct Queue {
     items: Vec<Held>,
     /// How many no longer wait, which is at most half of them.
     gone: usize,
+    /// The clients of those that wait, and perhaps of some that no longer do.
+    clients: BTreeSet<ClientNo>,
 }
 
 impl Model for Queue {
     ghost use Rattle.std.specs.Prelude.{◌≤◌, List, drop, length};
+    ghost use Rattle.lease_manager.specs.Table.{AreOf};
     ghost use Rattle.manager_model.specs.Handling.{Tagged};
 
     ghost Value = { List Tagged };
 
     ghost view = { λ queue. drop queue.gone queue.items.items };
 
-    ghost invariant = { λ queue. queue.gone ≤ length queue.items.items };
+    ghost invariant = { λ queue. (queue.gone ≤ length queue.items.items)
+        × AreOf queue.clients.keys (drop queue.gone queue.items.items) };
 }
 
 impl Queue {
@@ -41,6 +46,7 @@ impl Queue {
         Queue {
             items: Vec::new(alloc),
             gone: 0,
+            clients: BTreeSet::new(alloc),
         }
     }
 
@@ -60,6 +66,7 @@ impl Queue {
         ensures more { OnOk result (self.new ≡ self.old ++ one ∷ []) }
         ensures refused { OnErr result (self.new ≡ self.old) }
     {
+        self.clients.insert(one.client)?;
         self.items.push(one)?;
         Ok(())
     }
@@ -80,10 +87,20 @@ impl Queue {
         }
     }
 
+    /// Whether a request of the client waits.
+    pub fn has_of(&self, client: ClientNo) -> bool
+        ensures { result ≡ list_any (is_of client.0) self.now }
+    {
+        self.clients.contains(&client) && is_any_of(self.as_slice(), client)
+    }
+
     /// The requests of the client no longer wait.
     pub fn forget(&mut self, client: ClientNo)
         ensures { self.new ≡ without (is_of client.0) self.old }
     {
+        if !self.clients.remove(&client) {
+            return;
+        }
         let_go(&mut self.items, self.gone);
         self.gone = 0;
         forget_of(&mut self.items, client);
@@ -113,6 +130,13 @@ impl Queue {
     {
         one_asks_with(self.as_slice(), one)
     }
+}
+
+// Whether a request of the client is among these.
+fn is_any_of(queue: &[Held], client: ClientNo) -> bool
+    ensures { result ≡ list_any (is_of client.0) queue.now }
+{
+    queue.iter().any(|one| one.client == client)
 }
 
 // Whether a create is among these under the key of the open.

@@ -102,6 +102,16 @@ impl Queues {
         }
     }
 
+    /// Whether a request of the client waits on the file.
+    pub fn has_of(&self, file: FileNo, client: ClientNo) -> bool
+        ensures { result ≡ list_any (is_of client.0) (queue_in self.now file.0) }
+    {
+        match self.by_file.get(&file) {
+            Some(queue) => queue.has_of(client),
+            None => false,
+        }
+    }
+
     /// The requests of the client no longer wait on the file.
     pub fn forget(&mut self, file: FileNo, client: ClientNo)
         ensures { (other : ℕ) → queue_in self.new other

@@ -1,6 +1,7 @@
-ghost use Rattle.std.specs.Prelude.{◌≡◌, [], IfOk, OnOk, OnErr, if◌then◌else◌};
+ghost use Rattle.std.specs.Prelude.{◌≡◌, [], drop, IfOk, OnOk, OnErr, if◌then◌else◌};
 ghost use Rattle.std.specs.BTreeMap.{is_at};
 ghost use Rattle.std.specs.BTreeSet.{insert_key};
+ghost use Rattle.std.specs.List.{slice_get};
 ghost use Rattle.std.specs.Option.{option_map};
 ghost use Rattle.std.specs.Set.{remove_key};
 ghost use Rattle.lease_manager.specs.Sets.{values_at, values_or_none};
@@ -92,6 +93,24 @@ impl<K: Ord + Copy, V: Ord + Copy> Sets<K, V> {
         }
     }
 
+    /// The key no longer has its first value, if it had one.
+    pub fn take_first(&mut self, key: K) -> Option<V>
+        ensures first { result ≡ slice_get (values_at K.cmp self.old key) 0 }
+        ensures left { (other : K) → values_at K.cmp self.new other
+            ≡ (if is_at (K.cmp key) other then drop 1 (values_at K.cmp self.old other) else values_at K.cmp self.old other) }
+    {
+        match self.by_key.get_mut(&key) {
+            Some(values) => {
+                let first = taken_first(values);
+                if values.is_empty() {
+                    self.by_key.remove(&key);
+                }
+                first
+            }
+            None => None,
+        }
+    }
+
     /// The key no longer has values.
     pub fn clear(&mut self, key: K)
         ensures { (other : K) → values_at K.cmp self.new other
@@ -99,6 +118,16 @@ impl<K: Ord + Copy, V: Ord + Copy> Sets<K, V> {
     {
         self.by_key.remove(&key);
     }
+}
+
+// The first value, which goes.
+fn taken_first<V: Ord + Copy>(values: &mut BTreeSet<V>) -> Option<V>
+    ensures first { result ≡ slice_get values.old.keys 0 }
+    ensures left { values.new.keys ≡ drop 1 values.old.keys }
+{
+    let first = *values.first()?;
+    values.remove(&first);
+    Some(first)
 }
 
 /// The values, rising.

@@ -1,4 +1,5 @@
 ghost use Rattle.std.specs.Prelude.{◌≡◌};
+ghost use Rattle.std.specs.Option.{option_map};
 ghost use Rattle.lease_model.specs.server.State.{has_key, has_own_key};
 ghost use Rattle.lease_model.specs.server.Attempt.{is_left_open};
 ghost use Rattle.lease_model.specs.server.Calls.{is_left_behind};
@@ -8,7 +9,9 @@ ghost use Rattle.lease_manager.specs.Closing.{outlives_under};
 ghost use Rattle.lease_manager.specs.Leases.{lease_of};
 ghost use Rattle.lease_manager.specs.Listing.{open_of};
 ghost use Rattle.lease_manager.specs.Looks.{is_connected_as};
+ghost use Rattle.lease_manager.specs.Restarting.{kept_under, pair_kept};
 
+use crate::values::kept::KeptOpen;
 use crate::values::key::LeaseName;
 use crate::values::lease::HeldLease;
 use crate::values::number::{ClientNo, FileNo};
@@ -181,6 +184,28 @@ impl OpenEntry {
         ensures { result ≡ outlives_under (lease_of lease) self.now }
     {
         self.durable && lease.state.caches_handles() && !lease.is_breaking()
+    }
+
+    /// What is kept of the open over a restart, where it stands under this lease; `None` where it doesn't outlive its client's
+    /// connection.
+    pub fn kept(&self, lease: HeldLease) -> Option<KeptOpen>
+        ensures { option_map pair_kept result ≡ kept_under (lease_of lease) self.now }
+    {
+        if !self.outlives_connection(lease) {
+            return None;
+        }
+        match self.lease_key {
+            Some(key) => Some(KeptOpen {
+                file_id: self.file_id,
+                client: self.client,
+                file: self.file,
+                key,
+                access: self.access,
+                share: self.share,
+                state: lease.state,
+            }),
+            None => None,
+        }
     }
 
     /// The open's client is there, or is away.

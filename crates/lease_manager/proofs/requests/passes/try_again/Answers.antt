@@ -1,4 +1,5 @@
-use Rattle.lease_laws.proofs.Words.{◌++◌, ◌+◌, ◌∙◌, Outcome, [], ap, arith, begun, inl, inr, is_behind, length, refl, subst, sym, take}
+use Rattle.lease_laws.proofs.Words.{◌++◌, ◌+◌, ◌∙◌, Outcome, [], ap, arith, begun, inl, inr, is_behind, length, refl, subst}
+use Rattle.lease_laws.proofs.Words.{sym, take}
 use Rattle.std.proofs.lemmas.List.{take-map}
 use Rattle.manager_model.specs.Decisions.{told_of}
 use Rattle.manager_model.specs.Handling.{Manager, Tagged}

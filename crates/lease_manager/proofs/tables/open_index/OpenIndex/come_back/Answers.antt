@@ -1,13 +1,16 @@
 use Rattle.lease_laws.proofs.Words.{Open, ap, has_key, refl, true}
 use Rattle.lease_manager.specs.KeyOrder.{key_order}
 use Rattle.lease_manager.specs.OpenIndex.{client_order, is_connected, is_left, owner_order}
+use Rattle.lease_manager.specs.Sets.{values_at}
+use Rattle.lease_manager.specs.Multimaps.{listed_at}
 use Rattle.lease_manager.proofs.opens.Indexing.{client_alike, client_back, owner_alike, owner_back, turned_nowhere}
 use Rattle.lease_manager.proofs.opens.Indexing.{turned_off, turned_on, unchanged, refused_so}
 use Rattle.lease_manager.proofs.tables.open_index.OpenIndex.come_back.Goals as goal
 
 pub returns-in_err-insert-clause-refused : goal.returns-in_err-insert-clause-refused
 returns-in_err-insert-clause-refused c = refused_so c.from_residual.result (λ opens index. record {
-  connected = unchanged client_order is_connected c.args.self.now.connected c.insert.new.self opens
+  connected = unchanged is_connected (values_at client_order c.args.self.now.connected) (values_at client_order
+      c.insert.new.self) opens
       c.in_err-insert.ensures.refused index.connected;
   left = index.left;
   leased = index.leased;
@@ -21,13 +24,16 @@ returns-clause-back c = λ opens rises found index.
     let owner = c.owner.result in
     let is = ap (λ (o : Open). o.file_id) c.one.view_is in
     record {
-      connected = turned_on client_order is_connected c.args.self.now.connected c.insert.new.self client c.one.inside.file_id
+      connected = turned_on client_order is_connected (values_at client_order c.args.self.now.connected) (values_at
+          client_order c.insert.new.self) client c.one.inside.file_id
           true opens one is rises found (λ other at. client_back client other one its at)
           (λ other apart. client_alike client other true one its apart) c.in_ok-insert.ensures.one_more index.connected;
-      left = turned_off owner_order is_left c.args.self.now.left c.remove.new.self owner c.one.inside.file_id true opens one is
+      left = turned_off owner_order is_left (values_at owner_order c.args.self.now.left) (values_at owner_order
+          c.remove.new.self) owner c.one.inside.file_id true opens one is
           rises found (λ other at. owner_back other one)
           (λ other apart. owner_alike owner other true one c.owner.ensures.client c.owner.ensures.file apart)
           c.remove.ensures index.left;
-      leased = turned_nowhere key_order has_key c.args.self.now.leased one.file_id true opens one rises found (λ other. refl)
+      leased = turned_nowhere has_key (listed_at key_order c.args.self.now.leased) one.file_id true opens one rises found (λ
+          other. refl)
           index.leased;
     }

@@ -1,6 +1,7 @@
 use Rattle.lease_laws.proofs.Words.{◌∙◌, key_eq, refl, rules, sym}
 use Rattle.lease_manager.specs.Summaries.{record_at}
-use Rattle.lease_manager.proofs.sums.Recording.{and_no, last_is, records_lose, records_end, key_changed, tally_changed, changed_twice}
+use Rattle.lease_manager.proofs.sums.Recording.{and_no, last_is, records_lose, records_end, key_changed, tally_changed}
+use Rattle.lease_manager.proofs.sums.Recording.{changed_twice}
 use Rattle.lease_manager.proofs.sums.Recording.{leases_kept, lease_gone, lease_missing, never_missing}
 use Rattle.lease_manager.proofs.tables.summaries.Summaries.lose_record.Goals as goal
 

@@ -1,0 +1,4 @@
+pub mod EntriesLemmas
+pub mod EntryLemmas
+pub mod KeptLemmas
+pub mod ManagerLemmas

@@ -1,0 +1,4 @@
+pub mod Entry
+pub mod Kept
+pub mod Laws
+pub mod Managers
