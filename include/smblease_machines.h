@@ -59,7 +59,11 @@ enum smblease_outcome {
     /* the handle holds no machine */
     SMBLEASE_NONE = 3,
     /* a number stands for nothing, and nothing changed */
-    SMBLEASE_NO_SUCH = 4
+    SMBLEASE_NO_SUCH = 4,
+    /* bytes aren't what they should be, and nothing changed */
+    SMBLEASE_DAMAGED = 5,
+    /* what was given would break a law that holds of every machine, and nothing changed */
+    SMBLEASE_UNLAWFUL = 6
 };
 
 /* An access is 1 for reading, plus 2 for writing; a share (ShareAccess, 2.2.13) is what other opens may

@@ -1,14 +1,14 @@
 /*
  * A manager of SMB 2.1 leases and durable opens (MS-SMB2 3.3) as a handle, for a file server that keeps its
- * files itself: it is to leases what a manager of locks is to locks. It has the opens, the leases and the
- * requests that wait for a break; names, bytes, sockets and timers are its host's. The host calls it for
+ * files itself: it is to leases what a manager of locks is to locks. It has the opens, the leases, and the requests
+ * and changes that wait for a break; names, bytes, sockets and timers are its host's. The host calls it for
  * what comes in, and carries out the decisions of each call, in their order. What each function does is proved,
  * for all arguments: it is what the rules of docs/MODEL.md say of the same call.
  *
  * Clients, files and tags are numbers of 64 bits that the host chooses: a client stands for a ClientGuid, a
  * file has a number from 1 on and isn't declared. FileIds are the manager's, from 1 on, and none is used
- * twice. A request comes under a tag, by which its decisions name it: the host keeps under the tag what is to
- * be done when the request goes on. While a request waits under a tag, no other one of any client has it.
+ * twice. A request or a change comes under a tag, by which its decisions name it: the host keeps under the tag
+ * what is to be done when it goes on. While one waits under a tag, no other one of any client has it.
  *
  * A handle is a struct of one pointer. It starts as {0}, and holds nothing then. Never copy a handle.
  * smblease_manager_free frees what no other function freed. A call of the first part below replaces the
@@ -48,9 +48,11 @@
  * before client 2 came. Client 2 goes on reading what the file no longer has. Where a write fails on the
  * disk, the host answers with the failure, and nothing has to be taken back.
  *
- * What is done to a file without a READ or a WRITE goes by smblease_manager_give_up. The host calls it, carries out
- * the decisions, and asks smblease_manager_given_up. Where that is 1 it goes on at once, before any other call; else it
- * keeps what it wants to do, and does both again once an acknowledgment, a close, a cut or a timer was decided about.
+ * What is done to a file without a READ or a WRITE goes by smblease_manager_change, under a tag as a request. The decisions
+ * end with GOES_ON for the tag where nothing is in its way. Else they end with WAITS, and GOES_ON stands among the decisions of
+ * a later call. The host makes the change at its GOES_ON, before it carries out what stands after that. Only leases are in the
+ * way of a change: changes have no order among themselves or with requests, and those that are free go on together, in order of
+ * arrival.
  *
  * - Truncating a file, locking bytes of it, changing it from outside SMB: with the extent ALL, and the key of the open that
  *   it comes by, which gives up nothing, or none. Each other lease is broken once, straight to nothing.
@@ -58,6 +60,14 @@
  *   create would not conflict.
  * - Renaming or removing a file, or changing its disposition: with the extent HANDLES. Who has the file open without
  *   caching its handle keeps it open; what waited for its client to come back ends.
+ *
+ * Changes that wait are tried again after a close, an acknowledgment, smblease_manager_give_up, the loss of a connection, a
+ * timer, the end of a break, and a request that was left or taken back: on the files that the call was about, or on all where
+ * a request that had waited closed an open. Leases that were granted since are broken for them too, and what nothing is in the
+ * way of goes on. smblease_manager_change_at says which wait.
+ * A host that asks itself has smblease_manager_give_up, and then smblease_manager_given_up: where that is 1 it makes the change
+ * at once, before any other call, and else it does both again once an acknowledgment, a close, a cut or a timer was decided
+ * about.
  *
  * An open that asks for no access to data (its attributes, say) is none of the manager's: the host opens it without a call,
  * and grants it nothing. SMB2 LOGOFF, and the loss of one of several connections of a client: smblease_manager_leave with the
@@ -108,7 +118,8 @@ void smblease_manager_free(struct smblease_manager *manager);
 /* A client connects (3.3.5.1), or its connection is lost (3.3.7.1); the timer of a break (3.3.6.5), by the
    number in its decision, or of a durable open (3.3.6.2), runs out; the break of a client's lease is
    ended whatever its timer says, as by an administrator. Where that doesn't apply nothing changes, nothing is
-   decided and the manager is never lost. A cut gives no decision for what waited of the client. Allocate.
+   decided and the manager is never lost. A cut gives no decision for what waited of the client; it forgets its changes,
+   also those of a client that isn't connected. Allocate.
    DONE, LOST or NONE. */
 uint32_t smblease_manager_join(struct smblease_manager *manager, uint64_t client);
 uint32_t smblease_manager_cut(struct smblease_manager *manager, uint64_t client);
@@ -134,15 +145,16 @@ uint32_t smblease_manager_acknowledge(struct smblease_manager *manager, uint64_t
                                       const struct smblease_acknowledgment *given);
 uint32_t smblease_manager_acknowledge_malformed(struct smblease_manager *manager, uint64_t client);
 
-/* A request that waits on the file is taken back (3.3.5.16). Where none waits nothing changes, nothing is
+/* A request or a change that waits on the file is taken back (3.3.5.16). Where none waits nothing changes, nothing is
    decided and the manager is never lost. Allocates. DONE, LOST or NONE. */
 uint32_t smblease_manager_withdraw(struct smblease_manager *manager, uint64_t client, uint64_t tag, uint64_t file);
 
-/* A client leaves these of its opens, and what it asked under these tags and waits: the connection or the session that
-   had them goes, and the client stays, by another one (profile; 3.3.5.6, 3.3.7.1). Each open ends or waits for the client, as by a
-   cut, and a decision says which; of the requests none says anything. What isn't the client's, and an open that waits for it
-   already, are passed over. Where the client isn't connected nothing changes, nothing is decided and the manager is never lost. Either list may be empty, and NULL then.
-   Allocates. DONE, NO_MEMORY, LOST or NONE; where it is NO_MEMORY nothing changed. */
+/* A client leaves these of its opens, and what it asked for under these tags and waits: the connection or the session that had
+   them goes, and the client stays, by another one (profile; 3.3.5.6, 3.3.7.1). Each open ends or waits for the client, as by a
+   cut, and a decision says which; of the requests and the changes none says anything. What isn't the client's, and an open
+   that waits for it already, are passed over. Where the client isn't connected no more than its changes under these tags go,
+   nothing is decided and the manager is never lost. Either list may be empty, and NULL then. Allocates. DONE, NO_MEMORY, LOST
+   or NONE; where it is NO_MEMORY nothing changed. */
 uint32_t smblease_manager_leave(struct smblease_manager *manager, uint64_t client, const uint64_t *file_ids,
                                 size_t file_id_count, const uint64_t *tags, size_t tag_count);
 
@@ -154,8 +166,15 @@ enum smblease_manager_extent {
     SMBLEASE_EXTENT_ALL = 2
 };
 
-/* Other keys on the file than this one of the client's give up as much (enum smblease_manager_extent); with no key each does
-   (profile). Allocates. DONE, LOST, NONE, or NO_SUCH where the extent stands for nothing: then nothing changed. */
+/* A change of the file that no open of a client asks for comes under a tag: other keys than this one of the client's give up as
+   much (enum smblease_manager_extent); with no key each does (profile). Each lease is broken once, straight to what is left of
+   it. The change goes on at once or waits, as the last decision says. The client need not be connected: a host may use a number
+   of its own for what it does itself. Allocates. DONE, LOST, NONE, or NO_SUCH where the extent stands for nothing: then nothing
+   changed. */
+uint32_t smblease_manager_change(struct smblease_manager *manager, uint64_t client, uint64_t tag,
+                                 const struct smblease_maybe_key *key, uint64_t file, uint32_t extent);
+/* The same without a tag, and nothing is kept of it: smblease_manager_given_up says whether anything is left in the way.
+   Allocates. DONE, LOST, NONE, or NO_SUCH where the extent stands for nothing: then nothing changed. */
 uint32_t smblease_manager_give_up(struct smblease_manager *manager, uint64_t client, const struct smblease_maybe_key *key,
                                   uint64_t file, uint32_t extent);
 
@@ -165,16 +184,16 @@ enum smblease_manager_decision_kind {
     /* The create is answered: the file is open under this FileId, or is again. client, tag, file_id, durable,
        has_lease, and with it key, state and breaking */
     SMBLEASE_DECISION_OPENED = 1,
-    /* The read or the write is done now, and answered. client, tag */
+    /* The read, the write or the change is done now, and answered. client, tag */
     SMBLEASE_DECISION_GOES_ON = 2,
     /* The close is done, and answered. client, tag */
     SMBLEASE_DECISION_CLOSED = 3,
     /* The request is answered with the status. client, tag, status */
     SMBLEASE_DECISION_REFUSED = 4,
-    /* The request waits for a break: it is answered with STATUS_PENDING, and a decision of another kind comes
-       for its tag. client, tag */
+    /* The request or the change waits for a break: it is answered with STATUS_PENDING, and a decision of another kind
+       comes for its tag. client, tag */
     SMBLEASE_DECISION_WAITS = 5,
-    /* The request that waited was taken back. client, tag */
+    /* The request or the change that waited was taken back. client, tag */
     SMBLEASE_DECISION_WITHDRAWN = 6,
     /* The client is sent a notification. client, key, current_state, new_state, ack_required: the client has to
        acknowledge it, and a timer is started, of this number, which is from 1 on and given once */
@@ -223,7 +242,7 @@ uint32_t smblease_manager_decision_at(struct smblease_manager *manager, size_t i
    outcome return 0. */
 
 /* 1 where it is so, and else 0: the client is connected; a break of its lease waits for an acknowledgment; its
-   request under the tag waits on the file; an open of this FileId waits for its client to connect again; there
+   request or its change under the tag waits on the file; an open of this FileId waits for its client to connect again; there
    is an open of this FileId, connected or not. */
 uint32_t smblease_manager_connected(struct smblease_manager *manager, uint64_t client);
 uint32_t smblease_manager_breaking(struct smblease_manager *manager, uint64_t client, const struct smblease_key *key);
@@ -346,6 +365,40 @@ uint32_t smblease_manager_list_requests(struct smblease_manager *manager);
    DONE, NONE, or NO_SUCH where nothing has the index; unless DONE nothing is written. */
 uint32_t smblease_manager_listed_request_at(struct smblease_manager *manager, size_t index,
                                             struct smblease_listed_request *listed);
+
+/* A change that waits. */
+struct smblease_change {
+    uint64_t file;
+    uint64_t client;
+    uint64_t tag;
+    /* that which gives up nothing, where has_key is set */
+    uint8_t key[16];
+    /* what other keys are to give up: one of enum smblease_manager_extent */
+    uint32_t extent;
+    uint8_t has_key;
+    uint8_t reserved[11];
+};
+
+/* The change that waits at this index, from 0, in order of arrival; the decisions stay. Nothing has to be listed first.
+   Allocates nothing. DONE, NONE, or NO_SUCH where nothing has the index; unless DONE nothing is written. */
+uint32_t smblease_manager_change_at(struct smblease_manager *manager, size_t index, struct smblease_change *out);
+
+/* ---- What is kept over a restart ---- */
+
+/* The bytes of what a host keeps over a restart of its own: the opens that would be there were each client cut now (3.3.7.1),
+   with what their leases hold, and the FileId given last; no requests or changes. They are written to `room` where they fit
+   its `size`, and else nothing is written there; `length` says how many they are. A host writes them to a disk as often as it
+   likes to be able to come back, before it answers what changed them: a durable open that isn't among them is lost. Allocates.
+   DONE, NO_MEMORY or NONE; unless DONE nothing is written. */
+uint32_t smblease_manager_export(struct smblease_manager *manager, size_t *length, uint8_t *room, size_t size);
+/* Makes a manager, as smblease_manager_new does, that has the opens of these bytes, which smblease_manager_export wrote. Each
+   of them waits for its client to connect again, and the host starts its timer (3.3.6.2); smblease_manager_list_opens says
+   which they are. No client has joined. Allocates. DONE, NO_MEMORY, or NO_SUCH where a number stands for no rule; DAMAGED
+   where the bytes were cut off or changed, or are others; UNLAWFUL where what they hold would break a law of managers, as
+   two opens that conflict, a number of a file above `files`, or two keys on a file of which one caches writes. Unless DONE
+   the handle is as it was. */
+uint32_t smblease_manager_import(struct smblease_manager *manager, uint32_t order, uint32_t rise, uint64_t files,
+                                 const uint8_t *bytes, size_t length);
 
 #ifdef __cplusplus
 }

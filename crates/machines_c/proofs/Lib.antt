@@ -7,3 +7,4 @@ pub mod Lists
 pub mod LooseValues
 pub mod ManagerHandles
 pub mod ServerHandles
+pub mod Tries

@@ -1,7 +1,9 @@
-//! The manager of leases of `lease_manager`. A handle holds a manager together with the decisions of its last call,
-//! the timers of breaks, and what was listed since.
+//! The manager of leases of `lease_manager`. A handle holds a manager together with the changes that wait, the
+//! decisions of its last call, the timers of breaks, and what was listed since.
 
+mod about;
 pub mod calls;
+pub mod changing;
 pub mod coming;
 pub mod decision;
 pub mod giving_up;
@@ -16,5 +18,6 @@ pub mod managing;
 pub mod numbering;
 pub mod queries;
 pub mod requests;
+pub mod restarting;
 pub mod setting_up;
 pub mod values;

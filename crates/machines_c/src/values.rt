@@ -1,6 +1,6 @@
 ghost use Rattle.std.specs.Prelude.{◌≡◌};
 ghost use Rattle.std.specs.Option.{option_map};
-ghost use Rattle.machines_c.specs.Values.{key_given};
+ghost use Rattle.machines_c.specs.Values.{key_coded, key_given};
 
 use lease_state::LeaseKey;
 
@@ -31,7 +31,8 @@ pub struct MaybeKey {
 impl MaybeKey {
     /// The key, where there is one.
     pub(crate) fn key(&self) -> Option<LeaseKey>
-        ensures { option_map (λ key. key.0) result ≡ key_given self.now }
+        ensures given { option_map (λ key. key.0) result ≡ key_given self.now }
+        ensures coded { result ≡ key_coded self.now }
     {
         if self.has_key != 0 {
             Some(LeaseKey(self.bytes))

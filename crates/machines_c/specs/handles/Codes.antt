@@ -1,5 +1,6 @@
 -- What numbers from C stand for.
 use Rattle.std.specs.Prelude.{ℕ, Bool, not, Option, Some, None, if◌then◌else◌, ◌==◌}
+use Rattle.lease_manager.specs.declared.values.extent.Extent as coded
 use Rattle.lease_model.specs.server.GivingUp.{Extent}
 use Rattle.lease_state.specs.Status.{code_of}
 use Rattle.lease_state.specs.declared.access.Access.{Access}
@@ -33,6 +34,9 @@ status_of n = if n == code_of status.InvalidParameter then status.InvalidParamet
 -- 1 for handles, 2 for all that is cached; no other number says what is to be given up
 abbrev pub extent_given : ℕ → Option Extent
 extent_given n = if n == 1 then Some Extent.Handles else if n == 2 then Some Extent.All else None
+
+abbrev pub extent_coded : ℕ → Option coded.Extent
+extent_coded n = if n == 1 then Some coded.TheVariants.Handles else if n == 2 then Some coded.TheVariants.All else None
 
 -- a flag is set by any number but 0
 abbrev pub is_set : ℕ → Bool

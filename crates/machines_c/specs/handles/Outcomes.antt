@@ -10,6 +10,8 @@ code_of outcome.NoMemory = 1
 code_of outcome.Lost = 2
 code_of outcome.Nothing = 3
 code_of outcome.NoSuch = 4
+code_of outcome.Damaged = 5
+code_of outcome.Unlawful = 6
 
 -- A call of the machine of a handle, where its arguments stand for something. Where the call is done, what was held
 -- and what is held are in this relation; the machine is lost only where it may be.

@@ -32,6 +32,7 @@ pub record IsUnlisted (listed : Listed) : Type 0 where
 -- Nothing but what is listed changed.
 pub record OnlyLists (old new : Managing) : Type 0 where
   pub manager : new.manager ≡ old.manager
+  pub changes : new.changes ≡ old.changes
   pub decisions : new.decisions ≡ old.decisions
   pub timers : new.timers ≡ old.timers
   pub numbers : new.numbers ≡ old.numbers

@@ -51,7 +51,8 @@ pub fn status_of(code: u32) -> Status
 
 /// What a number says that other keys are to give up (own): 1 for handles, 2 for all that they cache.
 pub fn extent_of(number: u32) -> Option<Extent>
-    ensures { option_map extent_of result ≡ codes.extent_given number }
+    ensures given { option_map extent_of result ≡ codes.extent_given number }
+    ensures coded { result ≡ codes.extent_coded number }
 {
     match number {
         1 => Some(Extent::Handles),

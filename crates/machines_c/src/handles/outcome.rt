@@ -14,6 +14,10 @@ pub enum Outcome {
     Nothing,
     /// A number stands for nothing, and nothing changed.
     NoSuch,
+    /// Bytes hold no opens, and nothing changed.
+    Damaged,
+    /// Opens would break a law that holds of every manager, and nothing changed.
+    Unlawful,
 }
 
 impl Outcome {
@@ -27,6 +31,8 @@ impl Outcome {
             Outcome::Lost => 2,
             Outcome::Nothing => 3,
             Outcome::NoSuch => 4,
+            Outcome::Damaged => 5,
+            Outcome::Unlawful => 6,
         }
     }
 }

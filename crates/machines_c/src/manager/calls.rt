@@ -3,9 +3,11 @@ ghost use Rattle.lease_model.specs.server.Naming.{key_of};
 ghost use Rattle.machines_c.specs.handles.Outcomes.{IsCall, code_of};
 ghost use Rattle.machines_c.specs.declared.handles.outcome.Outcome.TheVariants as outcomes;
 ghost use Rattle.manager_model.specs.Handling as rules;
-ghost use Rattle.machines_c.specs.manager.Asked.{is_present, is_absent, is_settled, is_gone, is_answered};
+ghost use Rattle.machines_c.specs.manager.About.{at_open, if_left, nowhere};
+ghost use Rattle.machines_c.specs.manager.Asked.{is_present, is_absent, is_settled, is_gone};
 ghost use Rattle.machines_c.specs.manager.Coming.{Came, MayBeLostBy};
-ghost use Rattle.machines_c.specs.manager.Calls.{Expired, Handled, MayBeLostUnless, MayBeLostUnlessOver, RunOut};
+ghost use Rattle.machines_c.specs.manager.Calls.{Cut, Expired, Handled, MayBeLostUnless, MayBeLostUnlessAnswered};
+ghost use Rattle.machines_c.specs.manager.Calls.{MayBeLostUnlessOver, RunOut, Withdrawn};
 
 use crate::handles::Outcome;
 use crate::manager::coming::Coming;
@@ -62,7 +64,7 @@ pub extern "C" fn smblease_manager_join(
     manager: &mut ManagerHandle,
     client: u64,
 ) -> u32
-    ensures { IsCall (Handled (λ one. rules.join one client)) (MayBeLostUnless (is_present client))
+    ensures { IsCall (Handled nowhere (λ one. rules.join one client)) (MayBeLostUnless (is_present client))
         result manager.old.held manager.new.held }
 {
     manager.call(alloc, Coming::Joins(ClientNo(client))).code()
@@ -76,7 +78,7 @@ pub extern "C" fn smblease_manager_cut(
     manager: &mut ManagerHandle,
     client: u64,
 ) -> u32
-    ensures { IsCall (Handled (λ one. rules.cut one client)) (MayBeLostUnless (is_absent client))
+    ensures { IsCall (Cut client) (MayBeLostUnless (is_absent client))
         result manager.old.held manager.new.held }
 {
     manager.call(alloc, Coming::IsCut(ClientNo(client))).code()
@@ -124,16 +126,16 @@ pub extern "C" fn smblease_manager_scavenge(
     manager: &mut ManagerHandle,
     file_id: u64,
 ) -> u32
-    ensures { IsCall (Handled (λ one. rules.scavenge one file_id)) (MayBeLostUnless (is_gone file_id))
-        result manager.old.held manager.new.held }
+    ensures { IsCall (Handled (if_left file_id (at_open file_id)) (λ one. rules.scavenge one file_id))
+        (MayBeLostUnless (is_gone file_id)) result manager.old.held manager.new.held }
 {
     manager
         .call(alloc, Coming::Scavenges(FileId(file_id)))
         .code()
 }
 
-/// A request of a client that waits on the file under the tag is taken back (3.3.5.16). Where none
-/// waits nothing changes. The outcomes are those of `smblease_manager_join`.
+/// A request or a change of a client that waits on the file under the tag is taken back (3.3.5.16). Where
+/// none waits nothing changes. The outcomes are those of `smblease_manager_join`.
 #[unsafe(no_mangle)]
 pub extern "C" fn smblease_manager_withdraw(
     alloc: Global,
@@ -142,7 +144,7 @@ pub extern "C" fn smblease_manager_withdraw(
     tag: u64,
     file: u64,
 ) -> u32
-    ensures { IsCall (Handled (λ one. rules.withdraw one file client tag)) (MayBeLostUnless (is_answered client tag file))
+    ensures { IsCall (Withdrawn file client tag) (MayBeLostUnlessAnswered client tag file)
         result manager.old.held manager.new.held }
 {
     manager

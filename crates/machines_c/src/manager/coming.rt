@@ -1,6 +1,7 @@
 use break_timers::BreakNo;
 use lease_manager::{Ask, ClientNo, Extent, FileNo, Tag};
 use lease_state::{FileId, LeaseKey, LeaseState};
+use waiting_changes::Change;
 
 /// What comes to a manager.
 #[derive(Clone, Copy, Debug)]
@@ -25,4 +26,6 @@ pub enum Coming {
     Withdraws(FileNo, ClientNo, Tag),
     /// Other keys on a file than this one of the client's, or all, are to give up what they hold.
     GivesUp(ClientNo, Option<LeaseKey>, FileNo, Extent),
+    /// A change is asked for that no open of a client asks for.
+    Changes(Change),
 }

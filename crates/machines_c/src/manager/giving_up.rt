@@ -5,6 +5,7 @@ ghost use Rattle.lease_manager.specs.Table.{server_of};
 ghost use Rattle.machines_c.specs.Values.{key_given};
 ghost use Rattle.machines_c.specs.handles.Codes.{extent_given, flag_of};
 ghost use Rattle.machines_c.specs.handles.Outcomes.{IsCall};
+ghost use Rattle.machines_c.specs.manager.About.{at};
 ghost use Rattle.machines_c.specs.manager.Calls.{Handled, MayBeLostUnless};
 ghost use Rattle.manager_model.specs.Handling as rules;
 
@@ -30,7 +31,7 @@ pub extern "C" fn smblease_manager_give_up(
     extent: u32,
 ) -> u32
     ensures call { IfSome (extent_given extent) (λ given. IsCall
-        (Handled (λ one. rules.give_up one (key_under client (key_given key.now)) file given))
+        (Handled (at file) (λ one. rules.give_up one (key_under client (key_given key.now)) file given))
         (MayBeLostUnless (λ one. false)) result manager.old.held manager.new.held) }
     ensures number { extent_given extent ≡ None → (result ≡ 4) × (manager.new.held ≡ manager.old.held) }
 {

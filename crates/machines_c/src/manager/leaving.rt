@@ -3,8 +3,7 @@ ghost use Rattle.lease_manager.specs.LeftOpens.{numbers};
 ghost use Rattle.lease_manager.specs.Parting.{tag_numbers};
 ghost use Rattle.machines_c.specs.handles.Outcomes.{IsCall, code_of};
 ghost use Rattle.machines_c.specs.manager.Asked.{is_absent};
-ghost use Rattle.machines_c.specs.manager.Calls.{Handled, MayBeLostUnless};
-ghost use Rattle.manager_model.specs.Handling as rules;
+ghost use Rattle.machines_c.specs.manager.Calls.{Left, MayBeLostUnless};
 
 use crate::handles::Outcome;
 use crate::manager::handle::ManagerHandle;
@@ -21,7 +20,7 @@ impl ManagerHandle {
         file_ids: &[FileId],
         tags: &[Tag],
     ) -> Outcome
-        ensures { IsCall (Handled (λ one. rules.leave one client.0 (numbers file_ids.now) (tag_numbers tags.now)))
+        ensures { IsCall (Left client.0 (numbers file_ids.now) (tag_numbers tags.now))
             (MayBeLostUnless (is_absent client.0)) (code_of result) self.old.held self.new.held }
     {
         match self.take(alloc) {
@@ -47,7 +46,7 @@ pub extern "C" fn smblease_manager_leave(
     file_ids: &[u64],
     tags: &[u64],
 ) -> u32
-    ensures call { result ≢ 1 → IsCall (Handled (λ one. rules.leave one client file_ids.now tags.now))
+    ensures call { result ≢ 1 → IsCall (Left client file_ids.now tags.now)
         (MayBeLostUnless (is_absent client)) result manager.old.held manager.new.held }
     ensures no_memory { result ≡ 1 → manager.new.held ≡ manager.old.held }
 {

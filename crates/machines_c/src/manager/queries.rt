@@ -1,4 +1,4 @@
-ghost use Rattle.std.specs.Prelude.{◌≡◌, None, IfSome, length, ◌==◌};
+ghost use Rattle.std.specs.Prelude.{◌≡◌, ◌||◌, None, IfSome, length, ◌==◌};
 ghost use Rattle.std.specs.List.{list_any};
 ghost use Rattle.lease_model.specs.server.Calls.{is_left_behind};
 ghost use Rattle.lease_model.specs.server.Naming.{key_of};
@@ -8,6 +8,7 @@ ghost use Rattle.lease_manager.specs.Questions.{goes_at_once, write_within};
 ghost use Rattle.machines_c.specs.handles.Codes.{flag_of};
 ghost use Rattle.lease_manager.specs.Table.{queue_at, server_of};
 ghost use Rattle.manager_model.specs.Handling.{is_under};
+ghost use Rattle.waiting_changes.specs.Changes.{asks_as};
 
 use crate::manager::handle::ManagerHandle;
 use crate::values::KeyBytes;
@@ -61,7 +62,7 @@ pub extern "C" fn smblease_manager_breaking(
     }
 }
 
-/// 1 where a request of the client under the tag waits on the file, and else 0.
+/// 1 where a request or a change of the client waits on the file under the tag, and else 0.
 #[unsafe(no_mangle)]
 pub extern "C" fn smblease_manager_waiting(
     alloc: Global,
@@ -71,16 +72,17 @@ pub extern "C" fn smblease_manager_waiting(
     file: u64,
 ) -> u32
     ensures some { IfSome manager.old.held (λ one. result
-        ≡ flag_of (list_any (is_under client tag) (queue_at one.manager.queues file))) }
+        ≡ flag_of (list_any (is_under client tag) (queue_at one.manager.queues file)
+        || list_any (asks_as file client tag) one.changes)) }
     ensures none { manager.old.held ≡ None → result ≡ 0 }
     ensures same { manager.new.held ≡ manager.old.held }
 {
     match manager.take(alloc) {
         None => 0,
         Some(managing) => {
-            let is_waiting = managing
-                .manager
-                .is_waiting(FileNo(file), ClientNo(client), Tag(tag));
+            let (file, client, tag) = (FileNo(file), ClientNo(client), Tag(tag));
+            let is_waiting = managing.manager.is_waiting(file, client, tag)
+                || managing.changes.is_waiting(file, client, tag);
             manager.put(alloc, managing);
             u32::from(is_waiting)
         }

@@ -3,8 +3,10 @@ ghost use Rattle.lease_model.specs.messages.Requests.{FileRequest};
 ghost use Rattle.machines_c.specs.handles.Outcomes.{IsCall};
 ghost use Rattle.lease_manager.specs.Requests.{request_like};
 ghost use Rattle.manager_model.specs.Handling as rules;
+ghost use Rattle.lease_model.specs.server.Naming.{key_of};
+ghost use Rattle.machines_c.specs.manager.About.{at_key, if_present, nowhere};
 ghost use Rattle.machines_c.specs.manager.Asked.{create_asked, write_asked, kept_by, is_absent};
-ghost use Rattle.machines_c.specs.manager.Calls.{Handled, MayBeLostUnless};
+ghost use Rattle.machines_c.specs.manager.Calls.{Asked, Handled, MayBeLostUnless};
 
 use crate::handles::{Outcome, access_of, share_of};
 use crate::manager::coming::Coming;
@@ -32,7 +34,7 @@ pub extern "C" fn smblease_manager_create(
     ask: &CreateFields,
 ) -> u32
     ensures call { IfSome (create_asked file access share ask.now) (λ request.
-        IsCall (Handled (λ one. rules.receive one client tag request)) (MayBeLostUnless (is_absent client))
+        IsCall (Asked client tag request) (MayBeLostUnless (is_absent client))
         result manager.old.held manager.new.held) }
     ensures number { create_asked file access share ask.now ≡ None → (result ≡ 4) × (manager.new.held ≡ manager.old.held) }
 {
@@ -62,7 +64,7 @@ pub extern "C" fn smblease_manager_read(
     tag: u64,
     file_id: u64,
 ) -> u32
-    ensures { IsCall (Handled (λ one. rules.receive one client tag (FileRequest.Read file_id)))
+    ensures { IsCall (Asked client tag (FileRequest.Read file_id))
         (MayBeLostUnless (is_absent client)) result manager.old.held manager.new.held }
 {
     let fid = FileId(file_id);
@@ -85,7 +87,7 @@ pub extern "C" fn smblease_manager_write(
     file_id: u64,
     fits: u8,
 ) -> u32
-    ensures { IsCall (Handled (λ one. rules.receive one client tag (write_asked file_id fits)))
+    ensures { IsCall (Asked client tag (write_asked file_id fits))
         (MayBeLostUnless (is_absent client)) result manager.old.held manager.new.held }
 {
     let write = Ask::Write {
@@ -106,7 +108,7 @@ pub extern "C" fn smblease_manager_close(
     tag: u64,
     file_id: u64,
 ) -> u32
-    ensures { IsCall (Handled (λ one. rules.receive one client tag (FileRequest.Close file_id)))
+    ensures { IsCall (Asked client tag (FileRequest.Close file_id))
         (MayBeLostUnless (is_absent client)) result manager.old.held manager.new.held }
 {
     let fid = FileId(file_id);
@@ -127,7 +129,8 @@ pub extern "C" fn smblease_manager_acknowledge(
     client: u64,
     given: &AckFields,
 ) -> u32
-    ensures { IsCall (Handled (λ one. rules.acknowledge one client (Some (kept_by given.now))))
+    ensures { IsCall (Handled (if_present client (at_key (key_of client given.now.key)))
+        (λ one. rules.acknowledge one client (Some (kept_by given.now))))
         (MayBeLostUnless (is_absent client)) result manager.old.held manager.new.held }
 {
     let (key, state) = (LeaseKey(given.key), LeaseState::from_wire(given.state));
@@ -144,7 +147,7 @@ pub extern "C" fn smblease_manager_acknowledge_malformed(
     manager: &mut ManagerHandle,
     client: u64,
 ) -> u32
-    ensures { IsCall (Handled (λ one. rules.acknowledge one client None))
+    ensures { IsCall (Handled nowhere (λ one. rules.acknowledge one client None))
         (MayBeLostUnless (is_absent client)) result manager.old.held manager.new.held }
 {
     manager

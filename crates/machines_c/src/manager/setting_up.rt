@@ -11,19 +11,26 @@ use crate::manager::listed::Listed;
 use crate::manager::managing::Managing;
 use break_timers::BreakTimers;
 use lease_manager::{FileNo, Manager};
-use lease_state::{Memory, Rules};
+use lease_state::Memory;
 use std::alloc::Global;
+use waiting_changes::WaitingChanges;
 
-// A manager of these rules in a box, where nothing is open.
-fn managing(alloc: Global, rules: Rules, files: u64) -> Result<Box<Managing>, Memory>
-    ensures manager { IfOk result (λ made. manager_of made.value.manager ≡ fresh_manager rules files) }
+/// A manager in a box, of which nothing was asked.
+///
+/// # Errors
+///
+/// `Memory` where there is none left for the box.
+pub fn managing(alloc: Global, manager: Manager) -> Result<Box<Managing>, Memory>
+    ensures manager { IfOk result (λ made. made.value.manager ≡ manager) }
+    ensures changes { IfOk result (λ made. made.value.changes ≡ []) }
     ensures decisions { IfOk result (λ made. made.value.decisions.items ≡ []) }
     ensures timers { IfOk result (λ made. timers_of made.value.timers ≡ no_timers) }
     ensures numbers { IfOk result (λ made. made.value.numbers.items ≡ []) }
     ensures listed { IfOk result (λ made. IsUnlisted made.value.listed) }
 {
     let made = Managing {
-        manager: Manager::with_files(alloc, rules, FileNo(files)),
+        manager,
+        changes: WaitingChanges::new(alloc),
         decisions: Vec::new(alloc),
         timers: BreakTimers::new(alloc),
         numbers: Vec::new(alloc),
@@ -47,7 +54,7 @@ pub extern "C" fn smblease_manager_new(
     files: u64,
 ) -> u32
     ensures new { IfSome (rules_given order rise) (λ rules. result ≡ 0 → IsSomeAnd manager.new.held
-        (λ one. (manager_of one.manager ≡ fresh_manager rules files) × (one.decisions.items ≡ [])
+        (λ one. (manager_of one.manager ≡ fresh_manager rules files) × (one.changes ≡ []) × (one.decisions.items ≡ [])
         × (timers_of one.timers ≡ no_timers) × (one.numbers.items ≡ []) × IsUnlisted one.listed)) }
     ensures no_memory { IfSome (rules_given order rise) (λ rules. result ≢ 0 → result ≡ 1) }
     ensures no_such { IfNone (rules_given order rise) (result ≡ 4) }
@@ -55,7 +62,7 @@ pub extern "C" fn smblease_manager_new(
 {
     match rules_of(order, rise) {
         None => Outcome::NoSuch.code(),
-        Some(rules) => match managing(alloc, rules, files) {
+        Some(rules) => match managing(alloc, Manager::with_files(alloc, rules, FileNo(files))) {
             Ok(made) => {
                 manager.put(alloc, made);
                 Outcome::Done.code()

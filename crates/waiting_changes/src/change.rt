@@ -1,0 +1,43 @@
+ghost use Rattle.std.specs.Prelude.{◌≡◌};
+ghost use Rattle.lease_manager.specs.Table.{server_of};
+ghost use Rattle.waiting_changes.specs.Changes.{asks_as, goes, is_free};
+
+use lease_manager::{ClientNo, Extent, FileNo, Manager, Tag};
+use lease_state::LeaseKey;
+
+/// A change of a file that no open of a client asks for (own).
+#[derive(Clone, Copy, Debug, PartialEq, Eq)]
+pub struct Change {
+    /// Who asks: a number of the host's own where no client does.
+    pub client: ClientNo,
+    /// By which it is answered.
+    pub tag: Tag,
+    /// The client's key that gives up nothing, if any.
+    pub key: Option<LeaseKey>,
+    pub file: FileNo,
+    /// What other keys are to give up.
+    pub extent: Extent,
+}
+
+impl Change {
+    /// Whether nothing of another key is in its way.
+    pub fn is_free(&self, manager: &Manager) -> bool
+        ensures { result ≡ is_free (server_of manager.now) self.now }
+    {
+        manager.is_given_up(self.client, self.key, self.file, self.extent)
+    }
+
+    // Whether it goes on at a try on the file.
+    pub(crate) fn goes(&self, file: FileNo, manager: &Manager) -> bool
+        ensures { result ≡ goes file.0 (server_of manager.now) self.now }
+    {
+        self.file == file && self.is_free(manager)
+    }
+
+    // Whether it is the client's under the tag, on this file.
+    pub(crate) fn is_under(&self, file: FileNo, client: ClientNo, tag: Tag) -> bool
+        ensures { result ≡ asks_as file.0 client.0 tag.0 self.now }
+    {
+        self.file == file && self.client == client && self.tag == tag
+    }
+}

@@ -1,0 +1,228 @@
+ghost use Rattle.std.specs.Prelude.{◌≡◌, ◌++◌, [], OnErr, OnOk, filter, map};
+ghost use Rattle.std.specs.List.{list_any};
+ghost use Rattle.lease_manager.specs.Outs.{decision_of, decisions as told_in, handling_of};
+ghost use Rattle.lease_manager.specs.Queues.{file_numbers};
+ghost use Rattle.lease_manager.specs.Table.{manager_of, server_of};
+ghost use Rattle.manager_model.specs.Hosting.{fresh_manager};
+ghost use Rattle.waiting_changes.specs.Changes.{asked_for_all, changed, closes_another, concluded, goes, goes_on, going_of};
+ghost use Rattle.waiting_changes.specs.Changes.{is_on};
+ghost use Rattle.waiting_changes.specs.Changes.{request_of, tried_after, tried_on, tried_on_all};
+ghost use Rattle.std.specs.Option.{option_map};
+
+use crate::change::Change;
+use crate::waiting::WaitingChanges;
+use lease_manager::{ClientNo, Decision, FileNo, Manager, Tag};
+use lease_state::Memory;
+
+impl WaitingChanges {
+    /// A change is asked for: others give up what is in its way, each lease broken once, straight to what is left of it
+    /// (MS-SMB2 3.3.4.7), and opens that wait for their clients end. It goes on at once where nothing is left in its way, and
+    /// else waits. What the manager decides and what becomes of the change is on the list afterwards, whatever was there.
+    /// Where it goes on, the host makes the change before it carries out what stands after it.
+    ///
+    /// # Errors
+    ///
+    /// `Memory` where there is none left. The manager has forgotten all but its rules and files then, as a new one, nothing
+    /// waits any longer, and the list has nothing of worth.
+    pub fn change(
+        &mut self,
+        manager: &mut Manager,
+        one: Change,
+        decisions: &mut Vec<Decision>,
+    ) -> Result<(), Memory>
+        ensures after { OnOk result (going_of self.new manager.new decisions.new.items
+            ≡ changed (manager_of manager.old) self.old one) }
+        ensures forgotten { OnErr result (manager_of manager.new
+            ≡ fresh_manager (server_of manager.old).rules (server_of manager.old).files) }
+        ensures none { OnErr result (self.new ≡ []) }
+    {
+        let (rules, files) = (manager.rules(), manager.files());
+        let came = self.ask(manager, one, decisions);
+        if came.is_err() {
+            *manager = Manager::with_files(*decisions.allocator(), rules, files);
+            *self = WaitingChanges::new(*decisions.allocator());
+        }
+        came
+    }
+
+    // The same, and what is left where no memory is isn't said.
+    fn ask(
+        &mut self,
+        manager: &mut Manager,
+        one: Change,
+        decisions: &mut Vec<Decision>,
+    ) -> Result<(), Memory>
+        ensures { OnOk result (going_of self.new manager.new decisions.new.items
+            ≡ changed (manager_of manager.old) self.old one) }
+    {
+        manager.give_up(one.client, one.key, one.file, one.extent, decisions)?;
+        self.try_after(manager, None, &[], decisions)?;
+        self.conclude(manager, one, decisions)
+    }
+
+    // It goes on, or waits.
+    fn conclude(
+        &mut self,
+        manager: &Manager,
+        one: Change,
+        decisions: &mut Vec<Decision>,
+    ) -> Result<(), Memory>
+        ensures { OnOk result (going_of self.new manager.now decisions.new.items
+            ≡ concluded one (going_of self.old manager.now decisions.old.items)) }
+    {
+        let (client, tag) = (one.client, one.tag);
+        if one.is_free(manager) {
+            decisions.push(Decision::GoesOn { client, tag })?;
+            return Ok(());
+        }
+        self.push(one)?;
+        decisions.push(Decision::Waits { client, tag })?;
+        Ok(())
+    }
+
+    /// What waits is tried again after a call of the manager whose decisions are on the list: on these files, which the call was
+    /// about, and where an open was closed by another request than this one of a client under a tag, on every file. Leases of
+    /// other keys that came since are broken for it too, and those changes go on, in order of arrival, that nothing is in the
+    /// way of. What is told of that comes after what is on the list.
+    ///
+    /// # Errors
+    ///
+    /// `Memory` where there is none left. The manager has forgotten all but its rules and files then, as a new one, nothing
+    /// waits any longer, and the list has nothing of worth.
+    pub fn try_again(
+        &mut self,
+        manager: &mut Manager,
+        request: Option<(ClientNo, Tag)>,
+        files: &[FileNo],
+        decisions: &mut Vec<Decision>,
+    ) -> Result<(), Memory>
+        ensures after { OnOk result (going_of self.new manager.new decisions.new.items ≡ tried_after
+            (option_map request_of request) (file_numbers files.now) (going_of self.old manager.old decisions.old.items)) }
+        ensures forgotten { OnErr result (manager_of manager.new
+            ≡ fresh_manager (server_of manager.old).rules (server_of manager.old).files) }
+        ensures none { OnErr result (self.new ≡ []) }
+    {
+        let (rules, last) = (manager.rules(), manager.files());
+        let came = self.try_after(manager, request, files, decisions);
+        if came.is_err() {
+            *manager = Manager::with_files(*decisions.allocator(), rules, last);
+            *self = WaitingChanges::new(*decisions.allocator());
+        }
+        came
+    }
+
+    // The same, and what is left where no memory is isn't said.
+    fn try_after(
+        &mut self,
+        manager: &mut Manager,
+        request: Option<(ClientNo, Tag)>,
+        files: &[FileNo],
+        decisions: &mut Vec<Decision>,
+    ) -> Result<(), Memory>
+        ensures { OnOk result (going_of self.new manager.new decisions.new.items ≡ tried_after
+            (option_map request_of request) (file_numbers files.now) (going_of self.old manager.old decisions.old.items)) }
+    {
+        if has_another_close(decisions, request) {
+            let all = self.files(*decisions.allocator())?;
+            return self.try_files(manager, &all, decisions);
+        }
+        self.try_files(manager, files, decisions)
+    }
+
+    // What waits on these files is tried again, one file after another.
+    fn try_files(
+        &mut self,
+        manager: &mut Manager,
+        files: &[FileNo],
+        decisions: &mut Vec<Decision>,
+    ) -> Result<(), Memory>
+        ensures { OnOk result (going_of self.new manager.new decisions.new.items
+            ≡ tried_on_all (file_numbers files.now) (going_of self.old manager.old decisions.old.items)) }
+    {
+        for file in files {
+            self.try_file(manager, *file, decisions)?;
+        }
+        Ok(())
+    }
+
+    // What waits on the file is tried again.
+    fn try_file(
+        &mut self,
+        manager: &mut Manager,
+        file: FileNo,
+        decisions: &mut Vec<Decision>,
+    ) -> Result<(), Memory>
+        ensures { OnOk result (going_of self.new manager.new decisions.new.items
+            ≡ tried_on file.0 (going_of self.old manager.old decisions.old.items)) }
+    {
+        ask_again(self.as_slice(), manager, file, decisions)?;
+        tell_free(self.as_slice(), manager, file, decisions)?;
+        self.let_go(file, manager);
+        Ok(())
+    }
+}
+
+// Others give up what is in the way of each of these that is on the file.
+fn ask_again(
+    changes: &[Change],
+    manager: &mut Manager,
+    file: FileNo,
+    decisions: &mut Vec<Decision>,
+) -> Result<(), Memory>
+    ensures { OnOk result (handling_of manager.new (told_in decisions.new.items)
+        ≡ asked_for_all (filter (is_on file.0) changes.now) (handling_of manager.old (told_in decisions.old.items))) }
+{
+    let mut told = Vec::new(*decisions.allocator());
+    for one in changes {
+        if one.file == file {
+            manager.give_up(one.client, one.key, one.file, one.extent, &mut told)?;
+            decisions.append(&mut told)?;
+        }
+    }
+    Ok(())
+}
+
+// Those of these go on that are on the file and that nothing is in the way of.
+fn tell_free(
+    changes: &[Change],
+    manager: &Manager,
+    file: FileNo,
+    decisions: &mut Vec<Decision>,
+) -> Result<(), Memory>
+    ensures { OnOk result (told_in decisions.new.items ≡ told_in decisions.old.items
+        ++ map goes_on (filter (goes file.0 (server_of manager.now)) changes.now)) }
+{
+    for one in changes {
+        if one.goes(file, manager) {
+            let (client, tag) = (one.client, one.tag);
+            decisions.push(Decision::GoesOn { client, tag })?;
+        }
+    }
+    Ok(())
+}
+
+// Whether an open was closed by another request than this one.
+fn has_another_close(decisions: &[Decision], request: Option<(ClientNo, Tag)>) -> bool
+    ensures { result ≡ list_any (closes_another (option_map request_of request)) (told_in decisions.now) }
+{
+    is_any_another_close(decisions, request)
+}
+
+fn is_any_another_close(decisions: &[Decision], request: Option<(ClientNo, Tag)>) -> bool
+    ensures { result ≡ list_any (λ decision. closes_another (option_map request_of request) (decision_of decision))
+        decisions.now }
+{
+    decisions
+        .iter()
+        .any(|decision| is_another_close(decision, request))
+}
+
+fn is_another_close(decision: &Decision, request: Option<(ClientNo, Tag)>) -> bool
+    ensures { result ≡ closes_another (option_map request_of request) (decision_of decision.now) }
+{
+    match (decision, request) {
+        (Decision::Closed { client, tag }, Some(own)) => !(*client == own.0 && *tag == own.1),
+        (Decision::Closed { .. }, None) => true,
+        _ => false,
+    }
+}
