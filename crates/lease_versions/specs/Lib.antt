@@ -1,0 +1,6 @@
+pub mod Layer
+pub mod Asking
+pub mod Rows
+pub mod Kept
+pub mod Laws
+pub mod Refusals
