@@ -2,9 +2,9 @@
 machines, and a manager of leases (docs/PYTHON.md), whose decisions are in smblease.manager_decisions."""
 from smblease.client import Client, lease_key
 from smblease.contexts import Context, CreateAnswer, CreateAsk, append_context, each_context, find_context, replace_data
-from smblease.faults import Fault, MachineLost
+from smblease.faults import Fault, KeptFault, MachineLost
 from smblease.manager import Manager
-from smblease.manager_listings import ListedLease, ListedOpen, ListedRequest, WaitingKind
+from smblease.manager_listings import Change, ListedLease, ListedOpen, ListedRequest, WaitingKind
 from smblease.manager_questions import HeldLease
 from smblease.messages import Acknowledgment, MessageKind, Notification, Response
 from smblease.outs import Changed, Opened, Out, Sent
@@ -21,11 +21,11 @@ from smblease.version import VERSION
 __version__ = VERSION
 __all__ = [
     "Access", "AcknowledgeDone", "AcknowledgeFailed", "AcknowledgeRequest", "Acknowledgment", "Answer", "Believes", "Break",
-    "CachedRead", "Changed", "Client", "Closed", "CloseFailed", "CloseRequest", "Context", "CreateAnswer", "CreateAsk",
-    "CreateFailed", "CreateRequest", "Created", "Done", "Extent", "Failed", "Fault", "FileBytes", "HeldLease", "LeaseState",
-    "ListedLease", "ListedOpen", "ListedRequest", "MachineLost", "Manager", "MessageKind", "Note", "Notification", "Opened",
-    "Order", "Out", "Quiet", "ReadDone", "ReadFailed", "ReadRequest", "Refusal", "Refused", "Reply", "Request", "Response",
-    "Rise", "Rules", "Sent", "Server", "Settled", "Settlement", "Share", "Status", "Step", "Waiting", "WaitingKind", "WriteDone",
-    "WriteFailed", "WriteRequest", "Wrote", "append_context", "each_context", "find_context", "granted_form", "is_within",
-    "lease_key", "needs_acknowledgment", "opens_conflict", "replace_data",
+    "CachedRead", "Change", "Changed", "Client", "CloseFailed", "CloseRequest", "Closed", "Context", "CreateAnswer", "CreateAsk",
+    "CreateFailed", "CreateRequest", "Created", "Done", "Extent", "Failed", "Fault", "FileBytes", "HeldLease", "KeptFault",
+    "LeaseState", "ListedLease", "ListedOpen", "ListedRequest", "MachineLost", "Manager", "MessageKind", "Note",
+    "Notification", "Opened", "Order", "Out", "Quiet", "ReadDone", "ReadFailed", "ReadRequest", "Refusal", "Refused",
+    "Reply", "Request", "Response", "Rise", "Rules", "Sent", "Server", "Settled", "Settlement", "Share", "Status", "Step",
+    "Waiting", "WaitingKind", "WriteDone", "WriteFailed", "WriteRequest", "Wrote", "append_context", "each_context",
+    "find_context", "granted_form", "is_within", "lease_key", "needs_acknowledgment", "opens_conflict", "replace_data",
 ]

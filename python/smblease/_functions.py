@@ -108,6 +108,7 @@ MANAGER: Dict[str, Signature] = {
     "manager_acknowledge_malformed": (c_uint32, (_MANAGER, c_uint64)),
     "manager_withdraw": (c_uint32, (_MANAGER, c_uint64, c_uint64, c_uint64)),
     "manager_leave": (c_uint32, (_MANAGER, c_uint64, POINTER(c_uint64), c_size_t, POINTER(c_uint64), c_size_t)),
+    "manager_change": (c_uint32, (_MANAGER, c_uint64, c_uint64, POINTER(structs.MaybeKey), c_uint64, c_uint32)),
     "manager_give_up": (c_uint32, (_MANAGER, c_uint64, POINTER(structs.MaybeKey), c_uint64, c_uint32)),
     "manager_given_up": (c_uint32, (_MANAGER, c_uint64, POINTER(structs.MaybeKey), c_uint64, c_uint32)),
     "manager_may_read": (c_uint32, (_MANAGER, c_uint64, c_uint64)),
@@ -129,6 +130,9 @@ MANAGER: Dict[str, Signature] = {
     "manager_listed_lease_at": (c_uint32, (_MANAGER, c_size_t, POINTER(structs.ListedLease))),
     "manager_list_requests": (c_uint32, (_MANAGER,)),
     "manager_listed_request_at": (c_uint32, (_MANAGER, c_size_t, POINTER(structs.ListedRequest))),
+    "manager_change_at": (c_uint32, (_MANAGER, c_size_t, POINTER(structs.Change))),
+    "manager_export": (c_uint32, (_MANAGER, POINTER(c_size_t), *_ROOM)),
+    "manager_import": (c_uint32, (_MANAGER, c_uint32, c_uint32, c_uint64, *_BYTES)),
 }
 
 FUNCTIONS: Dict[str, Signature] = {**CODEC, **STATES, **CLIENT, **SERVER, **MANAGER}

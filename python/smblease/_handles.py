@@ -24,6 +24,8 @@ class Outcome(enum.IntEnum):
     LOST = 2
     NONE = 3
     NO_SUCH = 4
+    DAMAGED = 5
+    UNLAWFUL = 6
 
 
 def check(outcome: int, name: str) -> None:

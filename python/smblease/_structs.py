@@ -125,3 +125,8 @@ class ListedRequest(ctypes.Structure):
     _fields_ = [("file", c_uint64), ("client", c_uint64), ("tag", c_uint64), ("file_id", c_uint64), ("key", c_uint8 * 16),
                 ("state", c_uint32), ("kind", c_uint32), ("access", c_uint8), ("share", c_uint8), ("has_lease", c_uint8),
                 ("durable", c_uint8), ("has_reconnect", c_uint8), ("reserved", c_uint8 * 27)]
+
+
+class Change(ctypes.Structure):
+    _fields_ = [("file", c_uint64), ("client", c_uint64), ("tag", c_uint64), ("key", c_uint8 * 16), ("extent", c_uint32),
+                ("has_key", c_uint8), ("reserved", c_uint8 * 11)]

@@ -18,6 +18,17 @@ class MachineLost(Exception):
     """
 
 
+class KeptFault(ValueError):
+    """Bytes of which no manager is made: they were cut off or changed, or what they hold would break a law of managers.
+
+    >>> from smblease import Manager, Rules
+    >>> Manager(Rules.of("by-key,whole"), kept=b"other bytes")
+    Traceback (most recent call last):
+    ...
+    smblease.faults.KeptFault: the bytes of kept opens are damaged
+    """
+
+
 class ToolFault(Exception):
     """What the program `leasecheck` or a tool that uses it can't do, as a text for people.
 

@@ -7,13 +7,15 @@ from __future__ import annotations
 
 import ctypes
 import uuid
-from typing import Any, Callable, Optional, Sequence
+from typing import Any, Callable, Dict, Optional, Sequence, Tuple
 
 from smblease import _structs as structs
 from smblease._arguments import LONG, are_longs, key_field, number
 from smblease._handles import Outcome
 from smblease._library import in_words, library
+from smblease._tags import WaitingTags
 from smblease.contexts import NO_ASK, CreateAsk, ask_struct
+from smblease.faults import KeptFault
 from smblease.manager_decisions import Decision, Decisions, decision_of
 from smblease.manager_listings import ManagerListings
 from smblease.manager_questions import ManagerQuestions, key_struct, maybe_key_struct
@@ -21,8 +23,11 @@ from smblease.messages import Acknowledgment
 from smblease.values import Access, Extent, LeaseState, Order, Rise, Rules, Share
 
 _create, _read, _write, _close = map(in_words, ("manager_create", "manager_read", "manager_write", "manager_close"))
+_change = in_words("manager_change")
 _decision_count, _read_decision = in_words("manager_decision_count"), in_words("manager_decision_at")
 _NOTHING_ASKED = ask_struct(NO_ASK)
+_REFUSED: Dict[int, str] = {Outcome.DAMAGED: "the bytes of kept opens are damaged",
+                            Outcome.UNLAWFUL: "the kept opens would break a law of managers"}
 
 
 def _longs(values: Sequence[int], name: str) -> Any:
@@ -37,6 +42,11 @@ class Manager(ManagerQuestions, ManagerListings):
     writes waits for its own lease's break, and its write-back waits behind that until the timer takes the lease. `files` is the
     last number of a file.
 
+    `kept` is what `export` gave before a restart of its host: the opens of it wait for their clients. KeptFault is raised where
+    it is damaged, or would break a law of managers.
+
+    A request or a change that comes under a tag under which one waits raises ValueError, and changes nothing.
+
     Where memory runs out within a call, MachineLost is raised: the host cuts all connections, lets go of all that is open, and
     makes a new manager.
 
@@ -50,30 +60,45 @@ class Manager(ManagerQuestions, ManagerListings):
     (1, 'RH', Waits(client=2, tag=20))
     """
 
-    def __init__(self, rules: Rules, files: int = LONG) -> None:
+    def __init__(self, rules: Rules, files: int = LONG, kept: Optional[bytes] = None) -> None:
         super().__init__(structs.Manager(), library.smblease_manager_free, "manager")
         if not isinstance(rules, Rules):
             raise TypeError(f"rules are needed, as Rules.of('by-key,whole'), and not {rules!r}")
         self._room = structs.ManagerDecision()
+        self._tags = WaitingTags()
         self._reference = ctypes.byref(self._handle)
         self._place, self._room_place = ctypes.addressof(self._handle), ctypes.addressof(self._room)
-        made = library.smblease_manager_new(self._reference, Order(rules.order).value, Rise(rules.rise).value,
-                                            number(files, LONG, "files"))
+        given = self._reference, Order(rules.order).value, Rise(rules.rise).value, number(files, LONG, "files")
+        made = library.smblease_manager_new(*given) if kept is None else library.smblease_manager_import(*given, kept, len(kept))
+        if made in _REFUSED:
+            raise KeptFault(_REFUSED[made])
         if made != Outcome.DONE:
             raise MemoryError("there is no memory for a manager")
 
     def _decided(self, call: Callable[..., int], *arguments: object) -> Decisions:
-        place, lock = self._place, self._lock
+        with self._lock:
+            return self._decisions(call, arguments)
+
+    def _requested(self, call: Callable[..., int], client: int, tag: int, *more: int) -> Decisions:
+        """What is decided of a request or a change, whose tag mustn't be taken."""
+        lock = self._lock
         # (sooner than `with`)
         lock.acquire()
         try:
-            outcome = call(*arguments)
-            if outcome:
-                self._check(outcome)
-            count = _decision_count(place)
-            return (self._decision_at(0),) if count == 1 else tuple(map(self._decision_at, range(count)))
+            self._tags.check(tag)
+            return self._decisions(call, (self._place, client, tag, *more))
         finally:
             lock.release()
+
+    def _decisions(self, call: Callable[..., int], arguments: Tuple[object, ...]) -> Decisions:
+        """What a call decides, while the lock is held."""
+        outcome = call(*arguments)
+        if outcome:
+            self._check(outcome)
+        count = _decision_count(self._place)
+        decided = (self._decision_at(0),) if count == 1 else tuple(map(self._decision_at, range(count)))
+        self._tags.follow(decided)
+        return decided
 
     def _decision_at(self, index: int) -> Decision:
         """A decision of the last call, which is read while the lock is held."""
@@ -84,9 +109,9 @@ class Manager(ManagerQuestions, ManagerListings):
 
     def _received(self, call: Callable[..., int], client: int, tag: int, file_id: int, *more: int) -> Decisions:
         if are_longs(client, tag, file_id):
-            return self._decided(call, self._place, client, tag, file_id, *more)
+            return self._requested(call, client, tag, file_id, *more)
         names = number(client, LONG, "client"), number(tag, LONG, "tag"), number(file_id, LONG, "file_id")
-        return self._decided(call, self._place, *names, *more)
+        return self._requested(call, *names, *more)
 
     def join(self, client: int) -> None:
         """A client connects (3.3.5.1), which decides nothing.
@@ -97,16 +122,19 @@ class Manager(ManagerQuestions, ManagerListings):
 
     def cut(self, client: int) -> Decisions:
         """A client's connection is lost (3.3.7.1). Each of its opens ends or waits for it. Nothing is decided of its requests
-        that wait.
+        and changes that wait.
 
         >>> Manager(Rules.of("by-key,whole")).cut(1)
         ()
         """
-        return self._decided(library.smblease_manager_cut, self._reference, number(client, LONG, "client"))
+        with self._lock:
+            decided = self._decisions(library.smblease_manager_cut, (self._reference, number(client, LONG, "client")))
+            self._tags.forget(client)
+        return decided
 
     def leave(self, client: int, file_ids: Sequence[int], tags: Sequence[int] = ()) -> Decisions:
-        """A client leaves these of its opens, and what it asked under these tags and waits: the connection or the session that
-        had them goes, and the client stays (3.3.5.6). What isn't the client's is passed over. Where MemoryError is raised,
+        """A client leaves these of its opens, and what it asked for under these tags and waits: the connection or the session
+        that had them goes, and the client stays (3.3.5.6). What isn't the client's is passed over. Where MemoryError is raised,
         nothing changed.
 
         >>> manager = Manager(Rules.of("by-key,whole"))
@@ -115,8 +143,12 @@ class Manager(ManagerQuestions, ManagerListings):
         >>> manager.leave(1, [opened.file_id])
         (Ended(file_id=1),)
         """
-        return self._decided(library.smblease_manager_leave, self._reference, number(client, LONG, "client"),
-                             _longs(file_ids, "file_id"), len(file_ids), _longs(tags, "tag"), len(tags))
+        arguments = (self._reference, number(client, LONG, "client"), _longs(file_ids, "file_id"), len(file_ids),
+                     _longs(tags, "tag"), len(tags))
+        with self._lock:
+            decided = self._decisions(library.smblease_manager_leave, arguments)
+            self._tags.leave(client, tags)
+        return decided
 
     def run_out(self, timer: int) -> Decisions:
         """The timer of a break runs out (3.3.6.5), by the number that it was told with. A timer need not be stopped: where its
@@ -158,7 +190,7 @@ class Manager(ManagerQuestions, ManagerListings):
             access, share = Access(access), Share(share)
         asked = _NOTHING_ASKED if ask is NO_ASK else ask_struct(ask)
         # pylint: disable-next=protected-access  # (which is `value`, and sooner there)
-        return self._decided(_create, self._place, *names, access._value_, share._value_, ctypes.addressof(asked))
+        return self._requested(_create, *names, access._value_, share._value_, ctypes.addressof(asked))
 
     def read(self, client: int, tag: int, file_id: int) -> Decisions:
         """A client asks to read by an open (3.3.5.12).
@@ -205,7 +237,7 @@ class Manager(ManagerQuestions, ManagerListings):
         return self._decided(library.smblease_manager_acknowledge_malformed, self._reference, number(client, LONG, "client"))
 
     def withdraw(self, client: int, tag: int, file: int) -> Decisions:
-        """A request that waits on the file is taken back (3.3.5.16).
+        """A request or a change that waits on the file is taken back (3.3.5.16).
 
         >>> Manager(Rules.of("by-key,whole")).withdraw(1, 10, 5)
         ()
@@ -213,9 +245,26 @@ class Manager(ManagerQuestions, ManagerListings):
         return self._decided(library.smblease_manager_withdraw, self._reference, number(client, LONG, "client"),
                              number(tag, LONG, "tag"), number(file, LONG, "file"))
 
+    def change(self, client: int, tag: int, key: Optional[uuid.UUID], file: int, extent: Extent) -> Decisions:
+        """A change of the file that no open of a client asks for (own): a truncation, a lock, a rename, another program's write.
+        Other keys than this one of the client's give up as much; with no key each does. The change goes on at once, or waits and
+        goes on in the decisions of whichever call frees it. The client need not be connected: a host may use a number of its own.
+
+        >>> manager = Manager(Rules.of("by-key,whole"))
+        >>> manager.join(1)
+        >>> ask = CreateAsk(uuid.UUID(int=1), LeaseState.of("RWH"))
+        >>> [opened] = manager.create(1, 10, 5, Access.READ, Share.READ, ask)
+        >>> [breaks, waits] = manager.change(2, 20, None, 5, Extent.ALL)
+        >>> manager.close_open(1, 11, opened.file_id)
+        (Closed(client=1, tag=11), GoesOn(client=2, tag=20))
+        """
+        asked, wanted = maybe_key_struct(key), Extent(extent).value
+        names = number(client, LONG, "client"), number(tag, LONG, "tag")
+        return self._requested(_change, *names, ctypes.addressof(asked), number(file, LONG, "file"), wanted)
+
     def give_up(self, client: int, key: Optional[uuid.UUID], file: int, extent: Extent) -> Decisions:
-        """Other keys on the file than this one of the client's give up as much; with no key each does (own). The host asks
-        `given_up` then.
+        """Other keys on the file than this one of the client's give up as much; with no key each does (own). A host that keeps
+        its changes itself asks `given_up` then; else there is `change`.
 
         >>> manager = Manager(Rules.of("by-key,whole"))
         >>> manager.join(1)

@@ -34,7 +34,7 @@ class Opened:
 
 @dataclass(frozen=True)
 class GoesOn:
-    """The read or the write is done now, before what comes after it, and answered.
+    """The read, the write or the change is done now, before what comes after it, and answered.
 
     >>> GoesOn(client=1, tag=11).tag
     11
@@ -72,7 +72,8 @@ class Refused:
 
 @dataclass(frozen=True)
 class Waits:
-    """The request waits for a break, and is answered with STATUS_PENDING: a decision of another kind comes for its tag.
+    """The request or the change waits for a break, and is answered with STATUS_PENDING: a decision of another kind comes for its
+    tag.
 
     >>> Waits(client=2, tag=20).tag
     20
@@ -84,7 +85,7 @@ class Waits:
 
 @dataclass(frozen=True)
 class Withdrawn:
-    """The request that waited was taken back, and is answered with STATUS_CANCELLED.
+    """The request or the change that waited was taken back, and is answered with STATUS_CANCELLED.
 
     >>> Withdrawn(client=2, tag=20).tag
     20

@@ -1,18 +1,18 @@
-"""What a manager of leases lists of itself: opens, leases and requests that wait. Nothing changes by that."""
+"""What a manager of leases lists of itself: opens, leases, and requests and changes that wait. Nothing changes by that."""
 from __future__ import annotations
 
 import ctypes
 import enum
 import uuid
 from dataclasses import dataclass
-from typing import Any, Callable, List, Optional, Tuple, Type, TypeVar
+from typing import Any, Callable, List, NamedTuple, Optional, Tuple, Type, TypeVar
 
 from smblease import _structs as structs
 from smblease._arguments import key_of
 from smblease._handles import Handle, Outcome
 from smblease._library import library
 from smblease.contexts import CreateAsk
-from smblease.values import Access, LeaseState, Share
+from smblease.values import Access, Extent, LeaseState, Share
 
 Listed = TypeVar("Listed", bound=ctypes.Structure)
 
@@ -84,6 +84,21 @@ class ListedRequest:
     ask: Optional[CreateAsk] = None
 
 
+class Change(NamedTuple):
+    """A change that waits: of which file, of which client, under which tag, and what keys other than this one of the client's are
+    to give up, where there is one.
+
+    >>> Change(5, 1, 10, None, Extent.ALL).file
+    5
+    """
+
+    file: int
+    client: int
+    tag: int
+    key: Optional[uuid.UUID]
+    extent: Extent
+
+
 def _open(has: Any) -> ListedOpen:
     key = key_of(has.key) if has.has_key else None
     return ListedOpen(int(has.file_id), int(has.client), int(has.file), key, Access(has.access), Share(has.share),
@@ -102,6 +117,11 @@ def _request(has: Any) -> ListedRequest:
     ask = CreateAsk(key_of(has.key) if has.has_lease else None, LeaseState(has.state), bool(has.durable),
                     int(has.file_id) if has.has_reconnect else None)
     return ListedRequest(*where, kind, access=Access(has.access), share=Share(has.share), ask=ask)
+
+
+def _change(has: Any) -> Change:
+    key = key_of(has.key) if has.has_key else None
+    return Change(int(has.file), int(has.client), int(has.tag), key, Extent(has.extent))
 
 
 class ManagerListings(Handle[structs.Manager]):
@@ -142,13 +162,43 @@ class ManagerListings(Handle[structs.Manager]):
         return tuple(map(_request, self._listed(library.smblease_manager_list_requests,
                                                 library.smblease_manager_listed_request_at, structs.ListedRequest)))
 
+    def changes(self) -> Tuple[Change, ...]:
+        """All changes that wait, in order of arrival.
+
+        >>> from smblease import Manager, Rules
+        >>> Manager(Rules.of("by-key,whole")).changes()
+        ()
+        """
+        with self._lock:
+            self._check_open()
+            return tuple(map(_change, self._each(library.smblease_manager_change_at, structs.Change)))
+
+    def export(self) -> bytes:
+        """What a host keeps over a restart of its own: the opens that would be there were each client cut now, with their leases,
+        and the FileId given last. `Manager(rules, kept=...)` makes a manager of it, where each of them waits for its client.
+
+        >>> from smblease import Manager, Rules
+        >>> Manager(Rules.of("by-key,whole")).export()[:8]
+        b'SMBKEPT1'
+        """
+        handle, length = ctypes.byref(self._handle), ctypes.c_size_t()
+        with self._lock:
+            self._check(library.smblease_manager_export(handle, ctypes.byref(length), None, 0))
+            room = ctypes.create_string_buffer(length.value)
+            self._check(library.smblease_manager_export(handle, ctypes.byref(length), room, length.value))
+        return room.raw
+
     def _listed(self, collect: Callable[..., int], at: Callable[..., int], kind: Type[Listed]) -> List[Listed]:
+        with self._lock:
+            self._check(collect(ctypes.byref(self._handle)))
+            return self._each(at, kind)
+
+    def _each(self, at: Callable[..., int], kind: Type[Listed]) -> List[Listed]:
+        """What is read by index, while the lock is held."""
         handle = ctypes.byref(self._handle)
         found: List[Listed] = []
-        with self._lock:
-            self._check(collect(handle))
+        one = kind()
+        while at(handle, len(found), ctypes.byref(one)) == Outcome.DONE:
+            found.append(one)
             one = kind()
-            while at(handle, len(found), ctypes.byref(one)) == Outcome.DONE:
-                found.append(one)
-                one = kind()
         return found

@@ -75,7 +75,7 @@ class ManagerQuestions(Handle[structs.Manager]):
         return bool(self._asked(library.smblease_manager_breaking, number(client, LONG, "client"), ctypes.byref(key_struct(key))))
 
     def waiting(self, client: int, tag: int, file: int) -> bool:
-        """Whether a request of a client under the tag waits on the file.
+        """Whether a request or a change of a client under the tag waits on the file.
 
         >>> from smblease import Manager, Rules
         >>> Manager(Rules.of("by-key,whole")).waiting(1, 10, 5)

@@ -5,9 +5,10 @@ import random
 from dataclasses import dataclass
 from typing import Callable, Optional
 
-from smblease import Manager, Rules
+from smblease import Rules
 from tests.python.drawn_calls import CALLS, Drawer
 from tests.python.plain_manager import PlainManager
+from tests.python.proved_manager import ProvedManager
 from tests.python.seen_calls import Call
 
 # How many questions follow each call.
@@ -34,14 +35,15 @@ def first_difference(chance: random.Random, count: int, rules: Optional[Rules] =
     """Of so many calls, each with some questions after it. Each manager is given a part of them."""
     for start in range(0, count, CALLS):
         drawer = Drawer(chance, rules)
-        with Manager(drawer.rules, drawer.files) as proved:
-            found = _compared(drawer, make(drawer.rules, drawer.files), proved, start)
+        proved = ProvedManager(drawer.rules, drawer.files)
+        found = _compared(drawer, make(drawer.rules, drawer.files), proved, start)
+        proved.close()
         if found:
             return found
     return None
 
 
-def _compared(drawer: Drawer, plain: PlainManager, proved: Manager, start: int) -> Optional[Difference]:
+def _compared(drawer: Drawer, plain: PlainManager, proved: ProvedManager, start: int) -> Optional[Difference]:
     calls: list[Call] = []
     for number in range(start + 1, start + 1 + CALLS):
         call = drawer.call()

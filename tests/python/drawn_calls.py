@@ -164,26 +164,41 @@ class Drawer:
         return Call("leave", (self._mostly(one.client, self._client), opens[chance.randint(0, 1):], tags))
 
     def _waiting(self) -> tuple[int, int, int]:
-        """The client, tag and file of a request that waits, in most of its parts."""
+        """The client, tag and file of a request or a change that waits, in most of its parts."""
         if not self.seen.asked or self._is(0.15):
             return self._client(), self._any_number(), self._file()
         asked = self._chance.choice(list(self.seen.asked.values()))
-        client, tag, named, *_ = asked.arguments
-        known = self.seen.known.get(named) if asked.name != "create" else None
-        file = named if asked.name == "create" else known.file if known else self._file()
+        client, tag, *_ = asked.arguments
+        file = self._file_asked(asked)
         return self._mostly(client, self._client), self._mostly(tag, self._any_number), self._mostly(file, self._file)
+
+    def _file_asked(self, asked: Call) -> int:
+        """That which a request or a change is of."""
+        _, _, named, *more = asked.arguments
+        if asked.name == "change":
+            return int(more[0])
+        known = self.seen.known.get(named)
+        return int(named) if asked.name == "create" else known.file if known else self._file()
 
     def _give_up(self) -> Call:
         return Call("give_up", (self._client(), self._maybe_key(), self._file(), self._chance.choice(EXTENTS)))
+
+    def _change(self) -> Call:
+        """Mostly of a client, and else of the host."""
+        client = self._mostly(self._client(), self._any_number)
+        return Call("change", (client, self._free_tag(), self._maybe_key(), self._file(), self._chance.choice(EXTENTS)))
+
+    def _restart(self) -> Call:
+        return Call("restart", ())
 
     def call(self) -> Call:
         """The next one."""
         opens, left, breaks = len(self.seen.known), len(self.seen.left), len(self.seen.breaks)
         weights: dict[Draw, float] = {
             self._create: 6, self._read: 2, self._write: 4, self._close: 0.2 + self._closing * opens, self._withdraw: 0.6,
-            self._acknowledge: 0.5 + breaks, self._acknowledge_malformed: 0.4, self._give_up: 0.5,
+            self._acknowledge: 0.5 + breaks, self._acknowledge_malformed: 0.4, self._give_up: 0.5, self._change: 0.8,
             self._run_out: 0.2 + 0.1 * breaks, self._expire: 0.05 + 0.1 * breaks, self._scavenge: 0.1 + 0.1 * left,
-            self._join: 0.2 + len(self.seen.away), self._cut: 0.6, self._leave: 0.6,
+            self._join: 0.2 + len(self.seen.away), self._cut: 0.6, self._leave: 0.6, self._restart: 0.04,
         }
         return self._chance.choices(list(weights), list(weights.values()))[0]()
 
@@ -199,6 +214,7 @@ class Drawer:
                 lambda: Call("opens", ()),
                 lambda: Call("leases", ()),
                 lambda: Call("requests", ()),
+                lambda: Call("changes", ()),
                 lambda: Call("open_count", ()))
 
     def _questions_of_leases(self) -> tuple[Draw, ...]:

@@ -3,14 +3,14 @@ which it is compared. It takes the calls of smblease.Manager, and gives the same
 from __future__ import annotations
 
 import uuid
-from typing import Callable, Optional, Sequence, Union
+from typing import Callable, Iterable, Optional, Sequence, Union
 
-from smblease import Access, Acknowledgment, CreateAnswer, CreateAsk, Extent, Notification, Response, Share, Status
+from smblease import Access, Acknowledgment, Change, CreateAnswer, CreateAsk, Extent, Notification, Response, Share, Status
 from smblease.manager_decisions import (Acknowledged, Breaks, Closed, Decision, Decisions, Ended, GoesOn, LeftBehind,
                                         NotAcknowledged, Opened, Refused, Waits, Withdrawn)
 from tests.python.plain_rules import (STATES, Close, Create, Held, Key, Lease, Open, Outcome, Read, Request, Want, Write,
                                       granted_form, is_within, needs_acknowledgment)
-from tests.python.plain_tables import LAST, PlainQuestions, Decided
+from tests.python.plain_tables import LAST, Decided, Listed, PlainQuestions
 
 # A try begins again after its breaks: one round may break handles, one writes, and the last finds nothing more.
 ROUNDS = 3
@@ -29,21 +29,28 @@ class PlainManager(PlainQuestions):
         self._expired = {key for key in self._expired if key[0] != client}
 
     def cut(self, client: int) -> Decisions:
+        self._changes = [it for it in self._changes if it.client != client]
         if client not in self._present:
             return ()
+        files = self._files_of_client(client)
         decided = self._part([one for one in self._opens.values() if one.client == client])
         self._present.remove(client)
         self._forget(lambda request: request.client == client)
-        return self._after(decided)
+        return self._all_after(decided, files)
 
     def leave(self, client: int, file_ids: Sequence[int], tags: Sequence[int] = ()) -> Decisions:
+        self._changes = [it for it in self._changes if not self._is_left(it, client, tags)]
         if client not in self._present:
             return ()
+        files = self._files_of_client(client)
         decided = self._part([one for one in self._opens.values() if one.client == client and one.file_id in file_ids])
         self._forget(lambda request: self._is_left(request, client, tags))
-        return self._after(decided)
+        return self._all_after(decided, files)
 
-    def _is_left(self, request: Request, client: int, tags: Sequence[int]) -> bool:
+    def _files_of_client(self, client: int) -> list[int]:
+        return self._files_of(one for one in self._opens.values() if self._is_connected_to(client, one))
+
+    def _is_left(self, request: Union[Request, Change], client: int, tags: Sequence[int]) -> bool:
         return request.client == client and request.tag in tags
 
     def _part(self, parting: list[Open]) -> Decided:
@@ -62,9 +69,10 @@ class PlainManager(PlainQuestions):
     def expire(self, client: int, key: uuid.UUID) -> Decisions:
         if not self.breaking(client, key):
             return ()
+        files = self._files_of(self._opens_under((client, key)))
         decided = self._end(self._opens_under((client, key)))
         self._expired.add((client, key))
-        return self._after(decided)
+        return self._all_after(decided, files)
 
     def run_out(self, timer: int) -> Decisions:
         """Only the timer of the break that the lease waits for is of any effect."""
@@ -74,7 +82,19 @@ class PlainManager(PlainQuestions):
         return ()
 
     def scavenge(self, file_id: int) -> Decisions:
-        return self._after(self._end([self._opens[file_id]])) if self.left_behind(file_id) else ()
+        if not self.left_behind(file_id):
+            return ()
+        one = self._opens[file_id]
+        return self._all_after(self._end([one]), [one.file])
+
+    # ---- its host starts again
+
+    def restart(self) -> Listed:
+        """Opens that would outlive their connections wait for their clients. Nothing else is left but the last FileId."""
+        self._part(list(self._opens.values()))
+        self._queues, self._changes, self._present, self._expired, self._last_timer = {}, [], set(), set(), 0
+        self._leases = {key: Lease(lease.state) for key, lease in self._leases.items()}
+        return self.opens(), self.leases()
 
     # ---- requests
 
@@ -93,8 +113,10 @@ class PlainManager(PlainQuestions):
     def _receive(self, request: Request) -> Decisions:
         if request.client not in self._present:
             return ()
-        decided = self._arrived(request)
-        return self._after(decided) if isinstance(request, Close) else tuple(decided)
+        if not isinstance(request, Close):
+            return tuple(self._arrived(request))
+        files = [one.file for one in self._opens.values() if one.file_id == request.file_id]
+        return self._all_after(self._arrived(request), files, request)
 
     def _arrived(self, request: Request) -> Decided:
         file = self._file_of(request)
@@ -211,11 +233,14 @@ class PlainManager(PlainQuestions):
 
     def acknowledge(self, client: int, given: Acknowledgment) -> Decisions:
         """What waits is tried again whatever became of the acknowledgment."""
-        return self._after([self._acknowledged(client, given)]) if client in self._present else ()
+        if client not in self._present:
+            return ()
+        files = self._files_of(self._opens_under((client, given.key)))
+        return self._all_after([self._acknowledged(client, given)], files)
 
     def acknowledge_malformed(self, client: int) -> Decisions:
         refused = NotAcknowledged(client, Status.INVALID_PARAMETER)
-        return self._after([refused]) if client in self._present else ()
+        return self._all_after([refused], []) if client in self._present else ()
 
     def _acknowledged(self, client: int, given: Acknowledgment) -> Decision:
         lease = self._leases.get((client, given.key))
@@ -231,16 +256,26 @@ class PlainManager(PlainQuestions):
     # ---- what waits
 
     def withdraw(self, client: int, tag: int, file: int) -> Decisions:
-        if not self.waiting(client, tag, file):
-            return ()
-        self._queue(file, [it for it in self._queues[file] if (it.request.client, it.request.tag) != (client, tag)])
-        return self._after([Withdrawn(client, tag)])
+        if self._request_waits(client, tag, file):
+            self._queue(file, [it for it in self._queues[file] if (it.request.client, it.request.tag) != (client, tag)])
+            return self._all_after([Withdrawn(client, tag)], [file])
+        staying = [it for it in self._changes if it[:3] != (file, client, tag)]
+        is_there, self._changes = len(staying) < len(self._changes), staying
+        return (Withdrawn(client, tag),) if is_there else ()
 
     def give_up(self, client: int, key: Optional[uuid.UUID], file: int, extent: Extent) -> Decisions:
+        return self._changes_after(self._others_give_up(client, key, file, extent), [file])
+
+    def _others_give_up(self, client: int, key: Optional[uuid.UUID], file: int, extent: Extent) -> Decided:
+        """What other keys give up, and what of the requests that wait goes by that."""
         ended: list[Ended] = []
         breaks: list[Breaks] = []
         self._meet(self._wants_of_extent(None if key is None else (client, key), file, extent), ended, breaks)
-        return self._after(self._in_effect(ended, breaks))
+        return [*self._after(self._in_effect(ended, breaks))]
+
+    def _all_after(self, decided: Decided, files: Iterable[int], request: Optional[Request] = None) -> Decisions:
+        """Requests that wait are tried again, and then changes, after a call about these files."""
+        return self._changes_after([*self._after(decided)], files, request)
 
     def _after(self, decided: Decided) -> Decisions:
         """What waits is tried again: file by file in the order of their numbers, until a pass answers nothing."""
@@ -261,3 +296,42 @@ class PlainManager(PlainQuestions):
                 decided += self._concluded(one.request, outcome)
         self._queue(file, passed)
         return len(passed) < len(waiting)
+
+    # ---- changes
+
+    def change(self, client: int, tag: int, key: Optional[uuid.UUID], file: int, extent: Extent) -> Decisions:
+        one = Change(file, client, tag, key, extent)
+        decided = [*self._changes_after(self._asked_for(one), [])]
+        if self._is_free(one):
+            return *decided, GoesOn(client, tag)
+        self._changes.append(one)
+        return *decided, Waits(client, tag)
+
+    def _asked_for(self, one: Change) -> Decided:
+        return self._others_give_up(one.client, one.key, one.file, one.extent)
+
+    def _asks_again(self, one: Change) -> Decided:
+        return self._asked_for(one)
+
+    def _is_free(self, one: Change) -> bool:
+        return self.given_up(one.client, one.key, one.file, one.extent)
+
+    def _changes_after(self, decided: Decided, files: Iterable[int], request: Optional[Request] = None) -> Decisions:
+        """After a call about these files changes are tried again, file by file: others give up what is in their way, leases that
+        came since too, and those go on that are free then. Where another request closed an open it is so on every file."""
+        own = request and (request.client, request.tag)
+        if any(isinstance(it, Closed) and (it.client, it.tag) != own for it in decided):
+            files = dict.fromkeys(it.file for it in self._changes)
+        for file in files:
+            self._try_changes(file, decided)
+        return tuple(decided)
+
+    def _try_changes(self, file: int, decided: Decided) -> None:
+        for one in [it for it in self._changes if it.file == file]:
+            decided += self._asks_again(one)
+        self._let_go(file, decided)
+
+    def _let_go(self, file: int, decided: Decided) -> None:
+        free = [it for it in self._changes if it.file == file and self._is_free(it)]
+        decided += [GoesOn(it.client, it.tag) for it in free]
+        self._changes = [it for it in self._changes if it not in free]

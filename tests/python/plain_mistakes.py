@@ -4,12 +4,12 @@ from __future__ import annotations
 import uuid
 from typing import Iterable, Optional, Sequence, Union
 
-from smblease import Acknowledgment, CreateAsk, Extent, Rules, Status
+from smblease import Acknowledgment, Change, CreateAsk, Extent, Rules, Status
 from smblease.manager_decisions import Breaks, Decision, Decisions, Ended
 from tests.python.plain_manager import PlainManager
 from tests.python.plain_rules import (ALL, STATES, Create, H, Held, Key, Lease, Open, Read, Request, W, Want, Write, granted_form,
                                       is_shared)
-from tests.python.plain_tables import LAST, Decided
+from tests.python.plain_tables import LAST, Decided, Listed
 
 # ---- states
 
@@ -208,7 +208,7 @@ class CreatesGoOn(PlainManager):
 class LeaveForgetsAll(PlainManager):
     """All that a client asked and waits, under whichever tag."""
 
-    def _is_left(self, request: Request, client: int, tags: Sequence[int]) -> bool:
+    def _is_left(self, request: Union[Request, Change], client: int, tags: Sequence[int]) -> bool:
         return request.client == client
 
 
@@ -255,4 +255,71 @@ class OverlooksCachedWrites(PlainManager):
         return super()._is_in_the_way(extent, Lease(lease.state & ~W, lease.broken_to))
 
 
-MISTAKES: tuple[type[PlainManager], ...] = tuple(PlainManager.__subclasses__())
+# ---- changes
+
+
+class ChangesAtOnce(PlainManager):
+    """A change goes on though a lease is in its way."""
+
+    def _is_free(self, one: Change) -> bool:
+        return True
+
+
+class ChangesWaitForEver(PlainManager):
+    """A change that waits is never tried again."""
+
+    def _try_changes(self, file: int, decided: Decided) -> None:
+        pass
+
+
+class ChangesSpareNoKey(PlainManager):
+    """The key that a change comes by gives up too."""
+
+    def _asked_for(self, one: Change) -> Decided:
+        return super()._asked_for(one._replace(key=None))
+
+    def _is_free(self, one: Change) -> bool:
+        return super()._is_free(one._replace(key=None))
+
+
+class ChangesOverlookNewLeases(PlainManager):
+    """What waits goes on once it is free, but leases that came since aren't broken for it."""
+
+    def _asks_again(self, one: Change) -> Decided:
+        return []
+
+
+# ---- restarts
+
+
+class GivesFileIdsAgain(PlainManager):
+    """After a restart, those that were given after the last open that is left."""
+
+    def restart(self) -> Listed:
+        left = super().restart()
+        self._last_id = max(self._opens, default=0)
+        return left
+
+
+class StaysExpired(PlainManager):
+    """What ran out before a restart has run out after it."""
+
+    def restart(self) -> Listed:
+        expired = self._expired
+        left = super().restart()
+        self._expired = expired
+        return left
+
+    def _forget_expired(self, client: int) -> None:
+        """(which a client would do that joins)"""
+
+
+class KeepsWhatIsBroken(PlainManager):
+    """Over a restart, opens whose lease is breaking, with the lease as it was."""
+
+    def restart(self) -> Listed:
+        self._leases = {key: Lease(lease.state) for key, lease in self._leases.items()}
+        return super().restart()
+
+
+MISTAKES: tuple[type[PlainManager], ...] = tuple(it for it in PlainManager.__subclasses__() if it.__module__ == __name__)

@@ -5,7 +5,7 @@ import uuid
 from dataclasses import replace
 from typing import Callable, Iterable, Optional, Union
 
-from smblease import (CreateAsk, Extent, HeldLease, LeaseState, ListedLease, ListedOpen, ListedRequest, Rules, Status,
+from smblease import (Change, CreateAsk, Extent, HeldLease, LeaseState, ListedLease, ListedOpen, ListedRequest, Rules, Status,
                       WaitingKind)
 from smblease.manager_decisions import Decision, Ended
 from smblease.values import Order, Rise
@@ -14,6 +14,7 @@ from tests.python.plain_rules import (ALL, NONE, STATES, Close, Create, H, Held,
 
 LAST = (1 << 64) - 1
 Decided = list[Decision]
+Listed = tuple[tuple[ListedOpen, ...], tuple[ListedLease, ...]]
 KINDS = {Read: WaitingKind.READ, Write: WaitingKind.WRITE, Close: WaitingKind.CLOSE}
 
 
@@ -29,6 +30,8 @@ class PlainTables:
         self._leases: dict[Key, Lease] = {}
         # what waits on each file, in order of arrival
         self._queues: dict[int, list[Held]] = {}
+        # changes that wait, in order of arrival
+        self._changes: list[Change] = []
         self._present: set[int] = set()
         self._expired: set[Key] = set()
         self._last_id = 0
@@ -73,6 +76,9 @@ class PlainTables:
     def _outlives_connection(self, one: Open) -> bool:
         lease = self._lease(one.key)
         return one.durable and bool(lease.state & H) and lease.broken_to is None
+
+    def _files_of(self, opens: Iterable[Open]) -> list[int]:
+        return list(dict.fromkeys(one.file for one in opens))
 
     # ---- what is wanted of other keys
 
@@ -201,6 +207,9 @@ class PlainQuestions(PlainTables):
         return self._lease((client, key)).broken_to is not None
 
     def waiting(self, client: int, tag: int, file: int) -> bool:
+        return self._request_waits(client, tag, file) or any(it[:3] == (file, client, tag) for it in self._changes)
+
+    def _request_waits(self, client: int, tag: int, file: int) -> bool:
         return any(it.request.client == client and it.request.tag == tag for it in self._queues.get(file, []))
 
     def left_behind(self, file_id: int) -> bool:
@@ -260,6 +269,9 @@ class PlainQuestions(PlainTables):
 
     def requests(self) -> tuple[ListedRequest, ...]:
         return tuple(_listed(file, it.request) for file in sorted(self._queues) for it in self._queues[file])
+
+    def changes(self) -> tuple[Change, ...]:
+        return tuple(self._changes)
 
 
 def _listed(file: int, one: Request) -> ListedRequest:

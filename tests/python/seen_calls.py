@@ -33,9 +33,10 @@ class Known:
 
 class Seen:
     def __init__(self, clients: Sequence[int]) -> None:
+        self._clients = clients
         # clients that aren't connected
         self.away = set(clients)
-        # requests that aren't answered yet, by their tags
+        # requests and changes that aren't answered yet, by their tags
         self.asked: dict[int, Call] = {}
         self.known: dict[int, Known] = {}
         # opens that are no more, and those that wait for their client
@@ -45,9 +46,21 @@ class Seen:
         self.breaks: list[Breaks] = []
         self.timers: list[int] = []
 
-    def note(self, call: Call, decisions: Optional[Sequence[Decision]]) -> None:
-        """What a call decided."""
-        if call.name in ("create", "read", "write", "close_open") and decisions:
+    def note(self, call: Call, given: Any) -> None:
+        """What a call gave: decisions, or of a restart the opens that are left."""
+        if call.name == "restart":
+            self._restarted({it.file_id for it in given[0]})
+        else:
+            self._decided(call, given)
+
+    def _restarted(self, left: set[int]) -> None:
+        self.away, self.asked, self.breaks = set(self._clients), {}, []
+        for file_id in [it for it in self.known if it not in left]:
+            self._end(file_id)
+        self.left = left
+
+    def _decided(self, call: Call, decisions: Optional[Sequence[Decision]]) -> None:
+        if call.name in ("create", "read", "write", "close_open", "change") and decisions:
             self.asked[call.arguments[1]] = call
         elif call.name == "join":
             self.away.discard(call.arguments[0])

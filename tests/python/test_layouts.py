@@ -18,7 +18,7 @@ TYPES: dict[str, Any] = {
     "void": None, "bool": ctypes.c_bool, "size_t": ctypes.c_size_t, "uint8_t": ctypes.c_uint8, "uint32_t": ctypes.c_uint32,
     "uint64_t": ctypes.c_uint64, "const uint8_t *": ctypes.c_char_p, "uint8_t *": ctypes.POINTER(ctypes.c_char),
     "char *": ctypes.POINTER(ctypes.c_char), "uint64_t *": ctypes.POINTER(ctypes.c_uint64),
-    "const uint64_t *": ctypes.POINTER(ctypes.c_uint64),
+    "const uint64_t *": ctypes.POINTER(ctypes.c_uint64), "size_t *": ctypes.POINTER(ctypes.c_size_t),
 }
 DECLARED = layout.structs()
 

@@ -1,21 +1,25 @@
 """A manager of leases as an object: a break and its ends, opens that stay, and the example of a file server."""
 from __future__ import annotations
 
+import hashlib
 import threading
 import uuid
 from collections import Counter
+from collections.abc import Callable
 from pathlib import Path
 
 import pytest
 
-from smblease import (Access, Acknowledgment, CreateAnswer, CreateAsk, Extent, HeldLease, LeaseState, ListedLease, ListedOpen,
-                      ListedRequest, Manager, Notification, Response, Rules, Share, Status, WaitingKind)
+from smblease import (Access, Acknowledgment, Change, CreateAnswer, CreateAsk, Extent, HeldLease, KeptFault, LeaseState,
+                      ListedLease, ListedOpen, ListedRequest, Manager, Notification, Response, Rules, Share, Status, WaitingKind)
 from smblease.manager_decisions import (Acknowledged, Breaks, Closed, Decisions, Ended, GoesOn, LeftBehind, NotAcknowledged,
                                         Opened, Refused, Waits, Withdrawn)
 from tests.paths import TESTS, TOP, files_of
 from tests.python.refusing import LOST, Ended as Finished, refusals, run
 
 ONE, TWO, FILE = (1 << 63) + 1, 2, (1 << 64) - 1
+# A number of a host's own, which never joins.
+HOST = 7
 KEY, OTHER_KEY = uuid.UUID(int=1), uuid.UUID(int=2)
 RWH, RH, R, NONE = map(LeaseState.of, ("RWH", "RH", "R", "none"))
 EXAMPLE = TOP / "examples/python/play_file_server.py"
@@ -81,6 +85,31 @@ def test_a_request_is_withdrawn(manager: Manager) -> None:
     assert manager.acknowledge(ONE, Acknowledgment(KEY, NONE)) == (Acknowledged(ONE, Response(KEY, NONE)),)
 
 
+def test_a_tag_is_of_one_request_that_waits(manager: Manager) -> None:
+    """Whoever has it, and until the request is answered, taken back, or forgotten."""
+    opened(ONE, 10, KEY, RWH, manager)
+    assert opened(TWO, 20, OTHER_KEY, R, manager)[-1] == Waits(TWO, 20)
+    for client in (ONE, TWO):
+        with pytest.raises(ValueError, match=f"^a request or a change of client {TWO} waits under tag 20$"):
+            manager.read(client, 20, 1)
+        with pytest.raises(ValueError, match="waits under tag 20$"):
+            manager.change(client, 20, None, FILE, Extent.ALL)
+    assert manager.requests()[0].client == TWO and manager.read(ONE, 10, 1) == (GoesOn(ONE, 10),)
+    manager.withdraw(TWO, 20, FILE)
+    assert opened(TWO, 20, OTHER_KEY, R, manager) == (Waits(TWO, 20),)
+    manager.leave(ONE, (), [20])
+    with pytest.raises(ValueError):
+        manager.close_open(TWO, 20, 1)
+    manager.leave(TWO, (), [20, 21])
+    assert opened(TWO, 20, OTHER_KEY, R, manager) == (Waits(TWO, 20),)
+    manager.cut(TWO)
+    assert manager.write(ONE, 20, 1) == (GoesOn(ONE, 20),)
+    manager.join(TWO)
+    opened(TWO, 20, OTHER_KEY, R, manager)
+    assert manager.acknowledge(ONE, Acknowledgment(KEY, RH))[-1] == Opened(TWO, 20, 2, CreateAnswer(OTHER_KEY, R))
+    assert manager.read(TWO, 20, 2) == (GoesOn(TWO, 20),)
+
+
 def test_opens_stay(manager: Manager) -> None:
     assert opened(ONE, 10, KEY, RWH, manager, durable=True) == (Opened(ONE, 10, 1, CreateAnswer(KEY, RWH, durable=True)),)
     assert manager.cut(ONE) == (LeftBehind(1),)
@@ -92,6 +121,71 @@ def test_opens_stay(manager: Manager) -> None:
     assert again == (Opened(ONE, 11, 1, CreateAnswer(KEY, RWH)),)
     manager.cut(ONE)
     assert manager.scavenge(1) == (Ended(1),)
+
+
+def test_a_restart(manager: Manager) -> None:
+    """Of what is durable all is left; the lease of the open that isn't goes with it. FileIds go on after the last one."""
+    opened(ONE, 10, KEY, RWH, manager, durable=True)
+    opened(TWO, 20, OTHER_KEY, R, manager)
+    manager.acknowledge(ONE, Acknowledgment(KEY, RH))
+    kept = manager.export()
+    assert (kept[:8], len(kept)) == (b"SMBKEPT1", 104) and manager.open_count() == 2
+    with Manager(Rules(), kept=kept) as again:
+        left = ListedOpen(1, ONE, FILE, KEY, Access.READ_WRITE, Share.READ_WRITE, durable=True, connected=False)
+        assert again.opens() == (left,) and again.leases() == (ListedLease(ONE, KEY, FILE, RH, None, 1),)
+        assert not again.connected(ONE) and again.left_behind(1) and again.export() == kept
+        for client in (ONE, TWO):
+            again.join(client)
+        assert again.create(ONE, 11, FILE, Access.READ, Share.READ, CreateAsk(KEY, reconnect=1)) == (
+            Opened(ONE, 11, 1, CreateAnswer(KEY, RH)),)
+        assert again.create(TWO, 21, FILE, Access.READ, Share.READ_WRITE) == (Opened(TWO, 21, 3, CreateAnswer()),)
+
+
+def test_what_is_kept_is_refused_where_it_is_damaged(manager: Manager) -> None:
+    opened(ONE, 10, KEY, RWH, manager, durable=True)
+    kept = manager.export()
+    for place, byte in enumerate(kept):
+        with pytest.raises(KeptFault, match="damaged"):
+            Manager(Rules(), kept=kept[:place] + bytes([byte ^ 1 << place % 8]) + kept[place + 1:])
+        with pytest.raises(KeptFault, match="damaged"):
+            Manager(Rules(), kept=kept[:place])
+    for other in (kept + b"\0", kept * 2):
+        with pytest.raises(KeptFault, match="damaged"):
+            Manager(Rules(), kept=other)
+
+
+def sealed(*opens: bytes, last: int) -> bytes:
+    text = b"SMBKEPT1" + last.to_bytes(8, "little") + len(opens).to_bytes(8, "little") + b"".join(opens)
+    return text + hashlib.sha256(text).digest()
+
+
+def kept_open(file_id: int, client: int, file: int, key: uuid.UUID, share: int = 3, state: int = 3) -> bytes:
+    numbers = b"".join(it.to_bytes(8, "little") for it in (file_id, client, file))
+    return numbers + key.bytes_le + bytes((3, share, state, *5 * (0,)))
+
+
+@pytest.mark.parametrize("opens", [
+    pytest.param([kept_open(1, ONE, 5, KEY, share=1), kept_open(2, TWO, 5, OTHER_KEY)], id="conflict"),
+    pytest.param([kept_open(1, ONE, 5, KEY), kept_open(2, ONE, 6, KEY)], id="two_files"),
+    pytest.param([kept_open(1, ONE, 5, KEY), kept_open(2, ONE, 5, KEY, state=7)], id="two_states"),
+    pytest.param([kept_open(1, ONE, 5, KEY, state=7), kept_open(2, TWO, 5, OTHER_KEY)], id="not_the_only_writer"),
+    pytest.param([kept_open(1, ONE, 5, KEY, state=1)], id="no_handle"),
+    pytest.param([kept_open(1, ONE, 5, KEY, state=2)], id="no_granted_form"),
+    pytest.param([kept_open(1, ONE, 0, KEY)], id="no_file"),
+    pytest.param([kept_open(1, ONE, 8, KEY)], id="past_the_files"),
+    pytest.param([kept_open(0, ONE, 5, KEY)], id="no_file_id"),
+    pytest.param([kept_open(4, ONE, 5, KEY)], id="past_the_file_ids"),
+    pytest.param([kept_open(2, ONE, 5, KEY), kept_open(1, ONE, 5, KEY)], id="in_no_order"),
+    pytest.param([kept_open(1, ONE, 5, KEY), kept_open(1, ONE, 5, KEY)], id="twice")])
+def test_what_is_kept_is_refused_where_it_breaks_a_law(opens: list[bytes]) -> None:
+    with pytest.raises(KeptFault, match="law"):
+        Manager(Rules(), files=7, kept=sealed(*opens, last=3))
+
+
+def test_what_is_kept_by_hand() -> None:
+    opens = [kept_open(1, ONE, 5, KEY), kept_open(2, TWO, 5, OTHER_KEY), kept_open(3, ONE, 6, OTHER_KEY, share=0, state=7)]
+    with Manager(Rules(), files=7, kept=sealed(*opens, last=3)) as manager:
+        assert [it.file_id for it in manager.opens()] == [1, 2, 3] and manager.export() == sealed(*opens, last=3)
 
 
 def test_leases_and_requests_are_listed(manager: Manager) -> None:
@@ -149,6 +243,96 @@ def test_others_give_up_handles(manager: Manager) -> None:
     assert manager.give_up(TWO, OTHER_KEY, FILE, Extent.HANDLES) == (Ended(1),)
     assert manager.given_up(TWO, OTHER_KEY, FILE, Extent.HANDLES)
     assert manager.give_up(ONE, None, FILE, Extent.HANDLES) == (Breaks(TWO, Notification(OTHER_KEY, RH, R, True), 1),)
+
+
+def test_a_change_goes_on_at_once(manager: Manager) -> None:
+    opened(ONE, 10, KEY, RWH, manager)
+    assert manager.change(ONE, 11, KEY, FILE, Extent.ALL) == (GoesOn(ONE, 11),)
+    assert manager.change(HOST, 70, None, 5, Extent.ALL) == (GoesOn(HOST, 70),)
+    manager.create(TWO, 20, 5, Access.READ, Share.READ, CreateAsk(KEY, R))
+    broken = Breaks(TWO, Notification(KEY, R, NONE, False))
+    assert manager.change(HOST, 70, None, 5, Extent.ALL) == (broken, GoesOn(HOST, 70)) and manager.changes() == ()
+
+
+def changed(manager: Manager) -> None:
+    """A change waits for the lease of open 1."""
+    opened(ONE, 10, KEY, RWH, manager)
+    broken = Breaks(ONE, Notification(KEY, RWH, NONE, True), 1)
+    assert manager.change(HOST, 70, None, FILE, Extent.ALL) == (broken, Waits(HOST, 70))
+    assert manager.changes() == (Change(FILE, HOST, 70, None, Extent.ALL),) and manager.requests() == ()
+    assert manager.waiting(HOST, 70, FILE) and not manager.waiting(HOST, 70, 5) and not manager.waiting(ONE, 70, FILE)
+
+
+@pytest.mark.parametrize("end, first", [
+    pytest.param(lambda manager: manager.acknowledge(ONE, Acknowledgment(KEY, NONE)), Acknowledged(ONE, Response(KEY, NONE)),
+                 id="acknowledged"),
+    pytest.param(lambda manager: manager.close_open(ONE, 11, 1), Closed(ONE, 11), id="closed"),
+    pytest.param(lambda manager: manager.cut(ONE), Ended(1), id="cut"),
+    pytest.param(lambda manager: manager.leave(ONE, [1]), Ended(1), id="left"),
+    pytest.param(lambda manager: manager.run_out(1), Ended(1), id="ran_out"),
+    pytest.param(lambda manager: manager.expire(ONE, KEY), Ended(1), id="expired")])
+def test_a_change_that_waited_goes_on(manager: Manager, end: Callable[[Manager], Decisions], first: object) -> None:
+    changed(manager)
+    assert end(manager) == (first, GoesOn(HOST, 70)) and manager.changes() == ()
+    assert manager.change(HOST, 70, None, FILE, Extent.ALL) == (GoesOn(HOST, 70),)
+
+
+def test_a_change_spares_its_key(manager: Manager) -> None:
+    opened(ONE, 10, KEY, RH, manager)
+    opened(TWO, 20, OTHER_KEY, RH, manager)
+    broken = Breaks(TWO, Notification(OTHER_KEY, RH, R, True), 1)
+    assert manager.change(ONE, 11, KEY, FILE, Extent.HANDLES) == (broken, Waits(ONE, 11))
+    assert manager.changes() == (Change(FILE, ONE, 11, KEY, Extent.HANDLES),)
+    assert manager.acknowledge(TWO, Acknowledgment(OTHER_KEY, R)) == (Acknowledged(TWO, Response(OTHER_KEY, R)), GoesOn(ONE, 11))
+    assert manager.lease(ONE, KEY) == HeldLease(RH)
+
+
+def test_a_change_is_withdrawn(manager: Manager) -> None:
+    changed(manager)
+    assert manager.withdraw(HOST, 70, 5) == () and manager.withdraw(ONE, 70, FILE) == ()
+    assert manager.withdraw(HOST, 70, FILE) == (Withdrawn(HOST, 70),) and manager.changes() == ()
+    assert manager.read(ONE, 70, 1) == (GoesOn(ONE, 70),) and manager.withdraw(HOST, 70, FILE) == ()
+    assert manager.acknowledge(ONE, Acknowledgment(KEY, NONE)) == (Acknowledged(ONE, Response(KEY, NONE)),)
+
+
+@pytest.mark.parametrize("end", [pytest.param(lambda manager: manager.cut(HOST), id="cut"),
+                                 pytest.param(lambda manager: manager.leave(HOST, [], [70]), id="left")])
+def test_a_change_goes_with_its_client(manager: Manager, end: Callable[[Manager], Decisions]) -> None:
+    """Whether it is connected or not."""
+    changed(manager)
+    manager.change(TWO, 20, OTHER_KEY, FILE, Extent.ALL)
+    manager.change(HOST, 71, None, 5, Extent.ALL)
+    assert manager.leave(ONE, [], [20, 70]) == manager.leave(TWO, [], [70]) == manager.cut(3) == ()
+    assert end(manager) == () and manager.changes() == (Change(FILE, TWO, 20, OTHER_KEY, Extent.ALL),)
+    assert manager.cut(TWO) == () and manager.changes() == ()
+    assert manager.read(ONE, 70, 1) == (GoesOn(ONE, 70),) and manager.read(ONE, 20, 1) == (GoesOn(ONE, 20),)
+    assert manager.acknowledge(ONE, Acknowledgment(KEY, NONE)) == (Acknowledged(ONE, Response(KEY, NONE)),)
+
+
+def test_a_lease_that_came_since_is_broken_too(manager: Manager) -> None:
+    opened(ONE, 10, KEY, RH, manager)
+    broken = Breaks(ONE, Notification(KEY, RH, R, True), 1)
+    assert manager.change(HOST, 70, None, FILE, Extent.HANDLES) == (broken, Waits(HOST, 70))
+    assert opened(TWO, 20, OTHER_KEY, RH, manager) == (Opened(TWO, 20, 2, CreateAnswer(OTHER_KEY, RH)),)
+    broken = Breaks(TWO, Notification(OTHER_KEY, RH, R, True), 2)
+    assert manager.acknowledge(ONE, Acknowledgment(KEY, R)) == (Acknowledged(ONE, Response(KEY, R)), broken)
+    assert manager.acknowledge(TWO, Acknowledgment(OTHER_KEY, R))[1:] == (GoesOn(HOST, 70),)
+
+
+def test_changes_of_one_file_go_on_together(manager: Manager) -> None:
+    """What one of them breaks is told before any goes on; each goes in order of arrival."""
+    opened(ONE, 10, KEY, RH, manager)
+    assert manager.change(HOST, 71, None, FILE, Extent.HANDLES)[1:] == (Waits(HOST, 71),)
+    assert manager.change(TWO, 70, None, FILE, Extent.ALL) == (Waits(TWO, 70),)
+    broken = Breaks(ONE, Notification(KEY, R, NONE, False))
+    assert manager.acknowledge(ONE, Acknowledgment(KEY, R)) == (
+        Acknowledged(ONE, Response(KEY, R)), broken, GoesOn(HOST, 71), GoesOn(TWO, 70))
+
+
+def test_no_change_is_kept_over_a_restart(manager: Manager) -> None:
+    changed(manager)
+    with Manager(Rules(), kept=manager.export()) as again:
+        assert not again.changes()
 
 
 def test_what_may_be_done_at_once(manager: Manager) -> None:

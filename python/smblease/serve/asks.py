@@ -19,6 +19,10 @@ from smblease.serve.packets import Answer
 Found = TypeVar("Found")
 
 
+class StartOver(Exception):
+    """What a task asked of a file is to be asked again, of what has that name by then."""
+
+
 def nothing() -> None:
     """The effect of what has none."""
 
@@ -27,7 +31,7 @@ class Asked:
     """`call` gives it to a manager under a tag; `effect` is done where it goes on, at that place in the order of decisions. It
     may wait on the file, where it is about one."""
 
-    __slots__ = ("client", "node", "call", "effect", "is_new_open", "closes", "is_free")
+    __slots__ = ("client", "node", "call", "effect", "is_new_open", "closes", "is_free", "starts_over")
 
     def __init__(self, client: ManagerClient, node: Node | None, call: Callable[[Manager, int], Decisions],
                  effect: Callable[[], object] = nothing, is_new_open: bool = False, closes: int | None = None,
@@ -35,30 +39,51 @@ class Asked:
         """`closes` is the FileId of what it closes, which nobody takes back. `is_free`: whether it may be done without a call."""
         self.client, self.node, self.call, self.effect = client, node, call, effect
         self.is_new_open, self.closes, self.is_free = is_new_open, closes, is_free
+        # whether it may be taken back while it waits, by StartOver
+        self.starts_over = False
 
     @property
     def file(self) -> int:
         return self.node.number if self.node else 0
 
 
+class Changing(Asked):
+    """Other keys on the file than this one of the client's give up as much, and then it goes on. Without a key none is spared.
+    `asking` is whose request it is: where the client, that of an open, goes with that, it waits in this one's name."""
+
+    __slots__ = ("asking", "_extent")
+
+    def __init__(self, client: ManagerClient, asking: ManagerClient, key: UUID | None, node: Node, extent: Extent,
+                 effect: Callable[[], object] = nothing) -> None:
+        super().__init__(client, node, lambda manager, tag: manager.change(client.number, tag, key, node.number, extent), effect)
+        self.asking, self._extent = asking, extent
+
+    def in_its_own_name(self) -> Changing:
+        """The same, once the client and what it had open are gone."""
+        assert self.node
+        return Changing(self.asking, self.asking, None, self.node, self._extent, self.effect)
+
+
 @dataclass(frozen=True, eq=False)
-class GivingUp:
-    """Other keys on the file than this one of the client's are to give up as much; then `effect` is done at once. Without a key
-    none is spared."""
+class Emptying:
+    """Other keys on the file than this one of the client's give up all, before a create that empties it: by one break each, or
+    where creates waited for them already, handles first. Such creates step back, and start over after this."""
 
     client: ManagerClient
     key: UUID | None
     node: Node
-    extent: Extent
-    effect: Callable[[], object] = nothing
 
-    def call(self, manager: Manager) -> Decisions:
+    def call(self, manager: Manager, has_others: bool) -> Decisions:
         """Has them give up what they don't yet."""
-        return manager.give_up(self.client.number, self.key, self.node.number, self.extent)
+        extent = Extent.HANDLES if has_others and not self._is_given_up(manager, Extent.HANDLES) else Extent.ALL
+        return manager.give_up(self.client.number, self.key, self.node.number, extent)
 
     def is_over(self, manager: Manager) -> bool:
         """Whether none is in the way."""
-        return manager.given_up(self.client.number, self.key, self.node.number, self.extent)
+        return self._is_given_up(manager, Extent.ALL)
+
+    def _is_given_up(self, manager: Manager, extent: Extent) -> bool:
+        return manager.given_up(self.client.number, self.key, self.node.number, extent)
 
 
 @dataclass(frozen=True)
@@ -81,15 +106,17 @@ class Pause:
     """What waits for something that isn't the manager's, until it is resumed or taken back."""
 
 
-Yielded = Union[Asked, GivingUp, Acknowledging, Meanwhile, Pause]
+Yielded = Union[Asked, Emptying, Acknowledging, Meanwhile, Pause]
 Waits = Generator[Yielded, Any, Found]
 Handling = Waits[Answer]
 Steps = Waits[None]
 
 
-def to_open(client: ManagerClient, node: Node, access: Access, share: Share, ask: CreateAsk) -> Asked:
-    return Asked(client, node, lambda manager, tag: manager.create(client.number, tag, node.number, access, share, ask),
-                 nothing, ask.reconnect is None)
+def to_open(client: ManagerClient, node: Node, access: Access, share: Share, ask: CreateAsk, starts_over: bool = False) -> Asked:
+    asked = Asked(client, node, lambda manager, tag: manager.create(client.number, tag, node.number, access, share, ask),
+                  nothing, ask.reconnect is None)
+    asked.starts_over = starts_over
+    return asked
 
 
 def to_read(client: ManagerClient, opened: Open, effect: Callable[[], bytes]) -> Asked:

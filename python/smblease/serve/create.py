@@ -7,7 +7,7 @@ from smblease import Access, Context, CreateAnswer, CreateAsk, LeaseState, Share
 from smblease.drive.headers import HEADER
 from smblease.manager_decisions import Opened
 from smblease.serve.access import ALL_ACCESS, READING, SHARE_READ, WRITING, is_of_attributes, is_stat, writes
-from smblease.serve.asks import Handling, Steps, Waits, opening, to_open
+from smblease.serve.asks import Handling, StartOver, Steps, Waits, opening, to_open
 from smblease.serve.attributes import attributes_of
 from smblease.serve.create_parameters import (ALLOCATION, CREATE, CREATED, DELETE_ON_CLOSE, DIRECTORY_FILE, MAKING, MOST_ACCESS,
                                               NON_DIRECTORY_FILE, ON_DISK, OPENED, OVERWRITE, OVERWRITE_IF, OVERWRITTEN, RWH,
@@ -28,10 +28,6 @@ ACTIONS = {SUPERSEDE: SUPERSEDED, OVERWRITE: OVERWRITTEN, OVERWRITE_IF: OVERWRIT
 DONE = struct.Struct("<HBBL52s4xQQLL")
 
 
-class Vanished(Exception):
-    """The file was deleted while its create waited; another may have its name."""
-
-
 class Create(Handlers):
     def create(self, request: Request) -> Handling:
         wanted = read_parameters(request.message)
@@ -43,8 +39,11 @@ class Create(Handlers):
         while True:
             try:
                 return (yield from self._once(request, wanted))
-            except Vanished:
-                continue
+            except StartOver:
+                # (which may come after its connection)
+                if request.connection.client is None:
+                    raise StatusError(Status.USER_SESSION_DELETED) from None
+                request.require_tree()
 
     def _once(self, request: Request, wanted: CreateParameters) -> Handling:
         names = self._server.names
@@ -126,7 +125,7 @@ class Create(Handlers):
 
     def _file(self, request: Request, wanted: CreateParameters, node: Node, action: int) -> Waits[tuple[Open, bytes]]:
         """An open of a file, and the contexts of its reply."""
-        server, access = self._server, wanted.access
+        server, access, path = self._server, wanted.access, node.path
         # (each open holds the file, as this create does)
         if node.users > 1 and conflicts(wanted, node.opens):
             yield from self._resolve_conflicts(request, wanted, node)
@@ -141,14 +140,17 @@ class Create(Handlers):
         client, ask = self._manager_client(request, wanted, node)
         hides = not wanted.share & SHARE_READ and server.looking.hides(node, wanted.share)
         try:
-            decided = yield to_open(client, node, *wanted.rights_beside(hides), ask)
+            decided = yield to_open(client, node, *wanted.rights_beside(hides), ask, starts_over=True)
             if not request.has_tree():
                 yield from self._refuse_late(request, client, node, decided)
             # (what the shell guards may have been opened while it waited)
             if node.users > 1 and (conflicts(wanted, node.opens) or hides and node.opens.reading):
                 yield from server.close_in_manager(client, node, decided.file_id)
                 raise StatusError(Status.SHARING_VIOLATION)
-        except StatusError:
+            if node.path != path:
+                yield from server.close_in_manager(client, node, decided.file_id)
+                raise StartOver
+        except (StatusError, StartOver):
             if client.guid is None:
                 server.free(client)
             raise
@@ -165,15 +167,21 @@ class Create(Handlers):
 
     def _empty(self, request: Request, wanted: CreateParameters, node: Node) -> Steps:
         """Has all others give up all at once, and not writes first."""
+        path = node.path
         yield from self._server.forced_breaks.break_for_emptying(request, node, wanted.key)
-        if node.is_gone:
-            raise Vanished
+        self._check_there(node, path)
+
+    @staticmethod
+    def _check_there(node: Node, path: str) -> None:
+        """Who caches a file may remove or rename it while its create waits; another may have its name then."""
+        if node.is_gone or node.path != path:
+            raise StartOver
 
     def _file_without_data(self, request: Request, wanted: CreateParameters, node: Node) -> Waits[Open]:
+        path = node.path
         if not is_stat(wanted.access) or not is_of_attributes(wanted.access) and node.opens.oplocks:
             yield from self._break_writes_of_others(request, node)
-        if node.is_gone:
-            raise Vanished
+        self._check_there(node, path)
         opened = self._kept(request, wanted, node)
         yield from self._break_for_deletion(request, opened)
         return opened
@@ -207,9 +215,9 @@ class Create(Handlers):
 
     def _resolve_conflicts(self, request: Request, wanted: CreateParameters, node: Node) -> Steps:
         """Deletion is shared or not: where it isn't, those that only may open again are asked to close."""
+        path = node.path
         yield from self._server.forced_breaks.break_handles(request, node, request.client, wanted.key)
-        if node.is_gone:
-            raise Vanished
+        self._check_there(node, path)
         if conflicts(wanted, node.opens):
             raise StatusError(Status.SHARING_VIOLATION)
 

@@ -5,7 +5,7 @@ from collections.abc import Callable
 from uuid import UUID
 
 from smblease import Access, Extent, Share, Status
-from smblease.serve.asks import GivingUp, Steps, closing, opening
+from smblease.serve.asks import Changing, Emptying, Steps, closing, opening
 from smblease.serve.node import Node
 from smblease.serve.opens import ManagerClient, Open
 from smblease.serve.request import Handlers, Request
@@ -17,7 +17,7 @@ class ForcedBreaks(Handlers):
         """Has all others give up the handles that they hold. It goes by the key of the one that asks, which gives up nothing."""
         if not node.opens.leases:
             return
-        yield GivingUp(client or request.client, key if client else None, node, Extent.HANDLES)
+        yield Changing(client or request.client, request.client, key if client else None, node, Extent.HANDLES)
         self._check_connected(request)
 
     def break_all(self, request: Request, opened: Open, effect: Callable[[], None]) -> Steps:
@@ -31,11 +31,11 @@ class ForcedBreaks(Handlers):
             if opened.file_id not in self._server.opens:
                 raise StatusError(Status.FILE_CLOSED)
             effect()
-        yield GivingUp(opened.client or request.client, opened.key, node, Extent.ALL, done)
+        yield Changing(opened.client or request.client, request.client, opened.key, node, Extent.ALL, done)
 
     def break_for_emptying(self, request: Request, node: Node, key: UUID | None) -> Steps:
-        """Has all others give up all that they cache, before a create that empties the file: each lease is broken once."""
-        yield GivingUp(request.client, key, node, Extent.ALL)
+        """Has all others give up all that they cache, before a create that empties the file."""
+        yield Emptying(request.client, key, node)
         self._check_connected(request)
 
     @staticmethod

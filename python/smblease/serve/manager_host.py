@@ -15,7 +15,8 @@ from smblease.drive.headers import Unreadable
 from smblease.faults import ToolFault
 from smblease.manager_decisions import (Acknowledged, Breaks, Closed, Decision, Decisions, Ended, GoesOn, LeftBehind,
                                         NotAcknowledged, Opened, Refused, Waits, Withdrawn)
-from smblease.serve.asks import Acknowledging, Asked, GivingUp, Handling, Meanwhile, Pause, Steps, Yielded
+from smblease.serve.asks import (Acknowledging, Asked, Changing, Emptying, Handling, Meanwhile, Pause, StartOver, Steps,
+                                 Yielded)
 from smblease.serve.disk_status import status_of
 from smblease.serve.packets import Answer
 from smblease.serve.status_error import EXHAUSTED, RefusedByManager, StatusError
@@ -41,8 +42,10 @@ class Task:
     def _prepare(self) -> None:
         self.is_over = False
         # what it waits for
-        self.asked: Asked | GivingUp | None = None
+        self.asked: Asked | Emptying | None = None
         self.tag = 0
+        # whether what it asked was taken back once, and asked again
+        self.has_stepped_back = False
         self.pause: Pause | None = None
         # what the manager decided of it, and whose leases it broke by that, where somebody wants to know
         self.decided: list[Decision] | None = None
@@ -65,8 +68,10 @@ class ManagerHost:
         self._tags = itertools.count(1)
         # by their tags, of which no two are the same
         self._waiting: dict[int, Task] = {}
-        # those of them that wait until others have given up what they hold
-        self._giving_up: dict[int, Task] = {}
+        # those of them that wait to empty a file
+        self._emptying: dict[int, Task] = {}
+        # creates that stepped back for such a one, by its tag; the manager doesn't know of them
+        self._stepped_back: dict[int, list[Task]] = {}
         # an acknowledgment with its task
         self._decisions: deque[tuple[Decision | Pause, Task | None]] = deque()
         self._paused: dict[Pause, Task] = {}
@@ -80,6 +85,11 @@ class ManagerHost:
     @property
     def waiting(self) -> list[Task]:
         return list(self._waiting.values())
+
+    @property
+    def stepped_back(self) -> list[Task]:
+        """Those of them that start over after a create that empties their file."""
+        return [task for tasks in self._stepped_back.values() for task in tasks if self._waiting.get(task.tag) is task]
 
     def start(self, task: Task) -> None:
         """Begins a task, and goes on until nothing is left that was decided."""
@@ -102,6 +112,7 @@ class ManagerHost:
     def _lost(self) -> None:
         """There was no memory: nobody knows any longer who has what open, or caches it."""
         self.manager = Manager(self._rules)
+        self._stepped_back.clear()
         self._decisions.clear()
         self._decisions.extend((it, None) for it in self._paused)
         self.abandon({it.asked.client.number for it in self._waiting.values() if it.asked}, Status.USER_SESSION_DELETED)
@@ -113,12 +124,12 @@ class ManagerHost:
         self.is_draining = True
         decisions, carries = self._decisions, self._carries
         try:
-            while decisions or self._giving_up:
+            while decisions or self._emptying:
                 try:
                     if decisions:
                         decision, task = decisions.popleft()
                         carries[type(decision)](decision, task)
-                    elif not self._goes_on_by_giving_up():
+                    elif not self._goes_on_to_empty():
                         break
                 except EXHAUSTED:
                     # It can't be told any more who was sent what.
@@ -132,7 +143,7 @@ class ManagerHost:
         if task.pause:
             self._resumed(task.pause)
             self._refuse(task, StatusError(Status.CANCELLED))
-        elif isinstance(asked, GivingUp):
+        elif isinstance(asked, Emptying) or task in self.stepped_back:
             self._waiting.pop(tag, None)
             self._refuse(task, StatusError(Status.CANCELLED))
         elif asked and asked.closes is None:
@@ -147,9 +158,21 @@ class ManagerHost:
         for task in asking:
             if self._waiting.pop(task.tag, None):
                 self._refuse(task, StatusError(Status.USER_SESSION_DELETED))
-        for task in tasks:
-            if task.pause or isinstance(task.asked, GivingUp):
+        self.let_go(tasks)
+
+    def let_go(self, tasks: Sequence[Task]) -> None:
+        """What these wait for that isn't the manager's is taken back."""
+        for task in list(tasks):
+            if task.pause or isinstance(task.asked, (Changing, Emptying)):
                 self.withdraw(task)
+
+    def ask_again(self, gone: ManagerClient) -> None:
+        """Changes that were asked for in the name of a client of one open, which is gone, are asked for in their own."""
+        for task in self.waiting:
+            asked = task.asked
+            if isinstance(asked, Changing) and asked.client is gone:
+                del self._waiting[task.tag]
+                self._ask(task, asked.in_its_own_name())
 
     def resume(self, pauses: list[Pause]) -> None:
         """These go on once what is decided by now is carried out."""
@@ -232,28 +255,55 @@ class ManagerHost:
         except Exception as broken:  # pylint: disable=broad-exception-caught  # one request's fault ends no other
             return None, StatusError(self._server.failed(broken))
 
-    def _goes_on_by_giving_up(self) -> bool:
-        """Has others give up what is waited for, once all that was decided is carried out; whether there is more to carry out by
-        that, or to look at."""
-        for tag, task in list(self._giving_up.items()):
+    def _goes_on_to_empty(self) -> bool:
+        """Has others give up what those hold that are to be emptied, once all that was decided is carried out; whether there is
+        more to carry out by that, or to look at."""
+        for tag, task in list(self._emptying.items()):
             asked = task.asked
-            if tag not in self._waiting or not isinstance(asked, GivingUp):
-                del self._giving_up[tag]
+            if tag not in self._waiting or not isinstance(asked, Emptying):
+                del self._emptying[tag]
+                if self._step_forward(tag):
+                    return True
             elif asked.is_over(self.manager):
-                del self._giving_up[tag], self._waiting[tag]
-                found, fault = self._done(asked.effect)
-                if fault:
-                    self._refuse(task, fault)
-                else:
-                    self._send(task, found)
+                del self._emptying[tag], self._waiting[tag]
+                self._send(task, None)
+                self._step_forward(tag)
                 return True
             else:
-                decisions = self.call(asked.call)
+                decisions = self.call(partial(self._give_up, asked, tag))
                 if task.decided is not None:
                     task.decided += (it for it in decisions if isinstance(it, Breaks))
                 if decisions:
                     return True
         return False
+
+    def _give_up(self, asked: Emptying, tag: int, manager: Manager) -> Decisions:
+        return asked.call(manager, tag in self._stepped_back)
+
+    def _step_back(self, emptying: Emptying, tag: int) -> None:
+        """Creates that wait on the file are taken back until it is emptied; each once, so that none waits for ever. They look
+        for its name again then: it may have been renamed."""
+        for task in self.waiting:
+            asked = task.asked
+            if isinstance(asked, Asked) and asked.starts_over and asked.node is emptying.node and not task.has_stepped_back:
+                taken_back = Withdrawn(asked.client.number, task.tag)
+                decisions = self._called(partial(self._take_back, asked, task.tag))
+                if taken_back in decisions:
+                    task.has_stepped_back = True
+                    self._stepped_back.setdefault(tag, []).append(task)
+                self._decisions.extend((it, None) for it in decisions if it != taken_back)
+
+    @staticmethod
+    def _take_back(asked: Asked, tag: int, manager: Manager) -> Decisions:
+        return manager.withdraw(asked.client.number, tag, asked.file)
+
+    def _step_forward(self, tag: int) -> bool:
+        """What stepped back starts over; whether there was any."""
+        tasks = [it for it in self._stepped_back.pop(tag, ()) if self._waiting.get(it.tag) is it]
+        for task in tasks:
+            del self._waiting[task.tag]
+            self._go(task, task.handling.throw, StartOver())
+        return bool(tasks)
 
     # Tasks
 
@@ -282,9 +332,10 @@ class ManagerHost:
                 self._do_at_once(task, asked)
                 return
             is_decided = self._put(task, asked)
-        elif isinstance(asked, GivingUp):
+        elif isinstance(asked, Emptying):
             task.asked, task.tag = asked, next(self._tags)
-            self._waiting[task.tag] = self._giving_up[task.tag] = task
+            self._waiting[task.tag] = self._emptying[task.tag] = task
+            self._step_back(asked, task.tag)
             return
         elif isinstance(asked, Answer):
             self._end(task, asked)

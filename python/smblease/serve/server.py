@@ -10,7 +10,7 @@ from typing import TYPE_CHECKING
 
 from smblease import LeaseState, Status
 from smblease.manager_decisions import Breaks
-from smblease.serve.asks import Steps, closing
+from smblease.serve.asks import Changing, Emptying, Steps, closing
 from smblease.serve.chains import Pending
 from smblease.serve.commands import Commands
 from smblease.serve.connection import Connection
@@ -184,6 +184,8 @@ class Server:  # pylint: disable=too-many-instance-attributes  # its parts find 
             self._cut(one)
         self._part(client, opens, connection.tasks)
         self.host.abandon({it.number for it in cut}, Status.USER_SESSION_DELETED)
+        # (what is done in the name of a client that was there for one open, which is closed, waits still)
+        self.host.let_go([it for it in connection.tasks if isinstance(it.asked, (Changing, Emptying))])
         self._drop(client)
         self.settle()
 
@@ -305,6 +307,7 @@ class Server:  # pylint: disable=too-many-instance-attributes  # its parts find 
         client.open = None
         if client.is_connected:
             self._cut(client)
+            self.host.ask_again(client)
         self._forget(client)
 
     def borrow(self, connection: Connection, who: str, is_shells: bool = False) -> ManagerClient:
