@@ -101,6 +101,7 @@ OUTSIDE: Mapping[str, str] = {
     "hex": "std::ports::hex",
     "json": "std::ports::json",
     "memchr": "memchr",
+    "sha2": "sha2",
     "uuid": "std::ports::uuid",
 }
 # Crates of the kit that nothing of plain Rust asks for.
@@ -127,9 +128,9 @@ LINTS = table(
         "the form that the prover takes",
         *("assertions_on_constants", "collapsible_if", "collapsible_match", "explicit_counter_loop", "len_zero"),
         *("manual_contains", "manual_find", "manual_is_multiple_of", "manual_map", "manual_ok_err", "manual_range_contains"),
-        "manual_range_patterns",
-        *("manual_unwrap_or", "manual_unwrap_or_default"),
-        *("needless_lifetimes", "needless_range_loop", "needless_return_with_question_mark", "question_mark"),
+        *("manual_range_patterns", "manual_unwrap_or", "manual_unwrap_or_default", "match_like_matches_macro"),
+        *("needless_borrows_for_generic_args", "needless_lifetimes", "needless_range_loop"),
+        *("needless_return_with_question_mark", "nonminimal_bool", "question_mark"),
         *("redundant_pattern_matching", "should_implement_trait", "single_match", "too_many_arguments", "type_complexity"),
         "write_with_newline",
     ),

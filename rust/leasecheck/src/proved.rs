@@ -17,9 +17,12 @@
     clippy::manual_range_patterns,
     clippy::manual_unwrap_or,
     clippy::manual_unwrap_or_default,
+    clippy::match_like_matches_macro,
+    clippy::needless_borrows_for_generic_args,
     clippy::needless_lifetimes,
     clippy::needless_range_loop,
     clippy::needless_return_with_question_mark,
+    clippy::nonminimal_bool,
     clippy::question_mark,
     clippy::redundant_pattern_matching,
     clippy::should_implement_trait,
@@ -37,6 +40,7 @@ pub mod capture_wire;
 pub mod lease_lines;
 pub mod lease_reasons;
 pub mod lease_texts;
+pub mod lease_versions;
 pub mod lease_wire_v2;
 pub mod leasecheck;
 pub mod record_words;

@@ -48,8 +48,7 @@
 //! # What isn't here
 //!
 //! Leases of version 2 (SMB 3), leases of folders, byte-range locks, and the rest of SMB2: sessions, signing, names, attributes. A
-//! server with files that can be truncated, locked or overwritten asks the manager for a write there; one that renames or removes a
-//! file asks for an open that shares nothing.
+//! server whose files can be truncated, locked, overwritten, renamed or removed asks the manager for that by [`Manager::change`].
 //!
 //! # Memory, threads, Rust
 //!

@@ -17,9 +17,12 @@
     clippy::manual_range_patterns,
     clippy::manual_unwrap_or,
     clippy::manual_unwrap_or_default,
+    clippy::match_like_matches_macro,
+    clippy::needless_borrows_for_generic_args,
     clippy::needless_lifetimes,
     clippy::needless_range_loop,
     clippy::needless_return_with_question_mark,
+    clippy::nonminimal_bool,
     clippy::question_mark,
     clippy::redundant_pattern_matching,
     clippy::should_implement_trait,
@@ -31,6 +34,7 @@
 )]
 
 pub mod break_timers;
+pub mod kept_opens;
 pub mod lease_client;
 pub mod lease_facts;
 pub mod lease_manager;
@@ -38,3 +42,4 @@ pub mod lease_state;
 pub mod lease_wire;
 pub mod lease_world;
 pub mod share_server;
+pub mod waiting_changes;

@@ -1,6 +1,6 @@
 //! What stands round the proved modules: conversions, accessors, and each call of the server, the client's cache and the manager.
 use smblease::client::{Answer, Client, Command};
-use smblease::manager::{Ask, ClientNo, CreateAsk, Decision, Extent, FileNo, Tag};
+use smblease::manager::{Ask, Change, ClientNo, CreateAsk, Decision, Extent, FileNo, ImportError, Tag};
 use smblease::server::{Out, Server};
 use smblease::world::{Judge, Setup, Verdict};
 use smblease::{
@@ -87,6 +87,22 @@ fn a_manager_keeps_a_durable_open() -> Result<(), OutOfMemory> {
 
 // One of two sessions of a client goes, with an open and a request that waits.
 #[test]
+fn a_manager_comes_back_after_a_restart() -> Result<(), Box<dyn std::error::Error>> {
+    let (one, key) = (ClientNo(1), LeaseKey([7; 16]));
+    let mut manager = Manager::new(Rules::by_key_whole());
+    manager.join(one)?;
+    manager.ask(one, Tag(1), open(Some((key, LeaseState::from_wire(3))), true))?;
+    let kept = manager.export()?;
+    let mut again = Manager::import(Rules::by_key_whole(), FileNo(u64::MAX), &kept)?;
+    assert!(again.has_left_behind(FileId(1)) && !again.is_connected(one));
+    assert_eq!(again.lease(one, key).state, LeaseState::from_wire(3));
+    assert_eq!(again.scavenge(FileId(1))?, [Decision::Ended { file_id: FileId(1) }]);
+    let none = Manager::import(Rules::by_key_whole(), FileNo(0), &kept);
+    assert_eq!(none.err(), Some(ImportError::Unlawful));
+    Ok(())
+}
+
+#[test]
 fn a_client_leaves_a_part() -> Result<(), OutOfMemory> {
     let (one, two, other) = (ClientNo(1), ClientNo(2), FileNo(FILE.0 + 1));
     let mut manager = Manager::new(Rules::profile());
@@ -120,6 +136,102 @@ fn others_give_up_what_they_hold() -> Result<(), OutOfMemory> {
     manager.acknowledge(one, KEY, LeaseState::from_wire(0))?;
     assert!(manager.is_given_up(two, None, FILE, Extent::All));
     Ok(())
+}
+
+fn change(client: ClientNo, tag: Tag, key: Option<LeaseKey>) -> Change {
+    Change { client, tag, key, file: FILE, extent: Extent::All }
+}
+
+// A client's lease of all three caches, and a change that waits for it, of a number that never joins.
+fn waiting_change() -> Result<Manager, OutOfMemory> {
+    let (one, host) = (ClientNo(1), ClientNo(9));
+    let mut manager = Manager::new(Rules::by_key_whole());
+    manager.join(one)?;
+    manager.ask(one, Tag(1), open(Some((KEY, LeaseState::from_wire(7))), false))?;
+    let own = manager.change(change(one, Tag(2), Some(KEY)))?;
+    assert_eq!(own, [Decision::GoesOn { client: one, tag: Tag(2) }]);
+    let decisions = manager.change(change(host, Tag(7), None))?;
+    let [Decision::Breaks { .. }, waits] = *decisions else { panic!("{decisions:?}") };
+    assert_eq!(waits, Decision::Waits { client: host, tag: Tag(7) });
+    assert_eq!(manager.changes(), [change(host, Tag(7), None)]);
+    assert!(manager.is_waiting(FILE, host, Tag(7)) && !manager.is_waiting(FILE, one, Tag(7)));
+    Ok(manager)
+}
+
+#[test]
+fn a_change_goes_on_once_it_is_free() -> Result<(), OutOfMemory> {
+    type End = fn(&mut Manager) -> Result<&[Decision], OutOfMemory>;
+    let ends: [End; 5] = [
+        |manager| manager.acknowledge(ClientNo(1), KEY, LeaseState::from_wire(0)),
+        |manager| manager.ask(ClientNo(1), Tag(1), Ask::Close { fid: FileId(1) }),
+        |manager| manager.cut(ClientNo(1)),
+        |manager| manager.leave(ClientNo(1), &[FileId(1)], &[]),
+        |manager| manager.expire(ClientNo(1), KEY),
+    ];
+    for end in ends {
+        let mut manager = waiting_change()?;
+        let decisions = end(&mut manager)?;
+        let [_, goes_on] = *decisions else { panic!("{decisions:?}") };
+        assert_eq!(goes_on, Decision::GoesOn { client: ClientNo(9), tag: Tag(7) });
+        assert!(manager.changes().is_empty() && !manager.is_waiting(FILE, ClientNo(9), Tag(7)));
+    }
+    Ok(())
+}
+
+#[test]
+fn a_change_is_taken_back_or_goes_with_its_client() -> Result<(), OutOfMemory> {
+    let (one, host) = (ClientNo(1), ClientNo(9));
+    let mut manager = waiting_change()?;
+    assert!(manager.withdraw(FILE, one, Tag(7))?.is_empty());
+    assert_eq!(manager.withdraw(FILE, host, Tag(7))?, [Decision::Withdrawn { client: host, tag: Tag(7) }]);
+    assert!(manager.changes().is_empty());
+    for (number, left) in [(1, 0), (2, 1), (3, 2)] {
+        manager.change(change(host, Tag(number), None))?;
+        assert_eq!(manager.changes().len(), 1 + left);
+    }
+    assert!(manager.leave(host, &[], &[Tag(1), Tag(3)])?.is_empty() && manager.changes() == [change(host, Tag(2), None)]);
+    assert!(manager.cut(host)?.is_empty() && manager.changes().is_empty());
+    assert_eq!(manager.acknowledge(one, KEY, LeaseState::from_wire(0))?.len(), 1);
+    Ok(())
+}
+
+// What is granted while a change waits is broken for it at the next call about its file.
+#[test]
+fn a_lease_that_came_since_is_broken_too() -> Result<(), OutOfMemory> {
+    type Call = fn(&mut Manager) -> Result<&[Decision], OutOfMemory>;
+    let calls: [(Call, Call); 3] = [
+        (|manager| manager.leave(ClientNo(3), &[FileId(2)], &[]), |manager| manager.scavenge(FileId(2))),
+        (|manager| manager.ask(ClientNo(1), Tag(3), alone()), |manager| manager.withdraw(FILE, ClientNo(1), Tag(3))),
+        (
+            |manager| manager.acknowledge_malformed(ClientNo(1)),
+            |manager| manager.give_up(ClientNo(2), Some(LeaseKey([2; 16])), FILE, Extent::Handles),
+        ),
+    ];
+    for (before, call) in calls {
+        let handles = LeaseState::from_wire(3);
+        let mut manager = Manager::new(Rules::by_key_whole());
+        for number in [1, 2, 3] {
+            manager.join(ClientNo(number))?;
+        }
+        manager.ask(ClientNo(1), Tag(1), open(Some((LeaseKey([1; 16]), handles)), false))?;
+        manager.ask(ClientNo(3), Tag(1), open(Some((LeaseKey([3; 16]), handles)), true))?;
+        let key = Some(LeaseKey([3; 16]));
+        let waiting = Change { client: ClientNo(3), tag: Tag(7), key, file: FILE, extent: Extent::Handles };
+        assert!(matches!(*manager.change(waiting)?, [Decision::Breaks { .. }, Decision::Waits { .. }]));
+        before(&mut manager)?;
+        manager.ask(ClientNo(2), Tag(2), open(Some((LeaseKey([2; 16]), handles)), false))?;
+        assert!(!manager.is_breaking(ClientNo(2), LeaseKey([2; 16])));
+        let decisions = call(&mut manager)?;
+        let [_, Decision::Breaks { client, .. }] = *decisions else { panic!("{decisions:?}") };
+        assert_eq!((client, manager.changes()), (ClientNo(2), [waiting].as_slice()));
+    }
+    Ok(())
+}
+
+// An open that shares nothing.
+fn alone() -> Ask {
+    let ask = CreateAsk { lease: None, durable: false, reconnect: None };
+    Ask::Create { file: FILE, access: Access::Read, share: Share::Nothing, ask }
 }
 
 #[test]

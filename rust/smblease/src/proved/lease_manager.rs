@@ -16,6 +16,9 @@
 //! [`Manager::laws`] and [`Manager::law_of_breaks`] say what holds of every manager, whatever was asked of it: one writer, no
 //! conflict, what is kept for a client that is away lasts, and a Break stands before the write that needed it.
 //!
+//! A host that restarts keeps what [`Manager::kept_opens`] and [`Manager::last_file_id`] give, and makes a manager of that by
+//! [`Manager::restored`]: its clients connect their durable opens again.
+//!
 //! A host whose files can be truncated, overwritten or locked asks for a write there, and one that renames or removes a file asks
 //! for an open that shares nothing, whose refusal doesn't matter.
 //!
@@ -44,6 +47,7 @@ mod keeping;
 mod manager;
 mod outs;
 mod requests;
+mod restoring;
 mod tables;
 mod told;
 mod values;
@@ -51,9 +55,11 @@ mod values;
 pub use manager::Manager;
 pub use values::decision::{BreakNotice, CreateAnswer, Decision};
 pub use values::extent::Extent;
+pub use values::kept::KeptOpen;
 pub use values::key::LeaseName;
 pub use values::lease::HeldLease;
 pub use values::listed::{ListedLease, ListedRequest};
 pub use values::number::{ClientNo, FileNo, Tag};
 pub use values::open::ListedOpen;
 pub use values::request::{Ask, CreateAsk};
+pub use values::restore_error::RestoreError;

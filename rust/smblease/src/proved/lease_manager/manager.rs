@@ -18,8 +18,10 @@ use std::alloc::Global;
 use std::mem;
 
 mod always;
+mod files;
 mod listings;
 mod questions;
+mod restarting;
 
 /// A manager of leases: the opens, the leases and the requests that wait for a break, of files that its host keeps.
 #[derive(Debug)]
@@ -81,8 +83,8 @@ impl Manager {
     ///
     /// # Errors
     ///
-    /// `Memory` where there is none left, and never where the client isn't connected. The manager has forgotten all but its rules and
-    /// files then, as a new one, and the list has nothing of worth.
+    /// `Memory` where there is none left, and never where the client isn't connected. The manager has forgotten all but its
+    /// rules and files then, as a new one, and the list has nothing of worth.
     pub fn ask(&mut self, client: ClientNo, tag: Tag, ask: Ask, decisions: &mut Vec<Decision>) -> Result<(), Memory> {
         self.call(Coming::Asks { client, tag, ask }, decisions)
     }
@@ -93,8 +95,8 @@ impl Manager {
     ///
     /// # Errors
     ///
-    /// `Memory` where there is none left, and never where the client isn't connected. The manager has forgotten all but its rules and
-    /// files then, as a new one, and the list has nothing of worth.
+    /// `Memory` where there is none left, and never where the client isn't connected. The manager has forgotten all but its
+    /// rules and files then, as a new one, and the list has nothing of worth.
     pub fn acknowledge(
         &mut self,
         client: ClientNo,
@@ -123,8 +125,8 @@ impl Manager {
     ///
     /// # Errors
     ///
-    /// `Memory` where there is none left, and never where the client isn't connected. The manager has forgotten all but its rules and
-    /// files then, as a new one, and the list has nothing of worth.
+    /// `Memory` where there is none left, and never where the client isn't connected. The manager has forgotten all but its
+    /// rules and files then, as a new one, and the list has nothing of worth.
     pub fn cut(&mut self, client: ClientNo, decisions: &mut Vec<Decision>) -> Result<(), Memory> {
         self.call(Coming::IsCut(client), decisions)
     }
@@ -137,8 +139,8 @@ impl Manager {
     ///
     /// # Errors
     ///
-    /// `Memory` where there is none left, and never where the client isn't connected. The manager has forgotten all but its rules and
-    /// files then, as a new one, and the list has nothing of worth.
+    /// `Memory` where there is none left, and never where the client isn't connected. The manager has forgotten all but its
+    /// rules and files then, as a new one, and the list has nothing of worth.
     pub fn leave(
         &mut self,
         client: ClientNo,
@@ -153,16 +155,17 @@ impl Manager {
         ended(&mut self.tables, came, rules, files)
     }
 
-    /// Other keys on a file than this one of the client's give up handles, or all that they cache; with no key each gives up (own).
-    /// So a host changes, locks, renames or removes a file where no open of a client asks it: it calls this, sends what is told, and
-    /// goes on at once where `is_given_up` says so, before anything else; else it calls this again after an acknowledgment, a close,
-    /// a cut or a timer. Each lease is broken once, straight to what is left of it (MS-SMB2 3.3.4.7), and opens of these keys that
-    /// wait for their clients end. Then what waits is tried again. The decisions are on the list afterwards, whatever was there.
+    /// Other keys on a file than this one of the client's give up handles, or all that they cache; with no key each gives up
+    /// (own). So a host changes, locks, renames or removes a file where no open of a client asks it: it calls this, sends what
+    /// is told, and goes on at once where `is_given_up` says so, before anything else; else it calls this again after an
+    /// acknowledgment, a close, a cut or a timer. Each lease is broken once, straight to what is left of it (MS-SMB2 3.3.4.7),
+    /// and opens of these keys that wait for their clients end. Then what waits is tried again. The decisions are on the list
+    /// afterwards, whatever was there.
     ///
     /// # Errors
     ///
-    /// `Memory` where there is none left. The manager has forgotten all but its rules and files then, as a new one, and the list has
-    /// nothing of worth.
+    /// `Memory` where there is none left. The manager has forgotten all but its rules and files then, as a new one, and the
+    /// list has nothing of worth.
     pub fn give_up(
         &mut self,
         client: ClientNo,
@@ -182,8 +185,8 @@ impl Manager {
     ///
     /// # Errors
     ///
-    /// `Memory` where there is none left, and never where the lease isn't breaking. The manager has forgotten all but its rules and
-    /// files then, as a new one, and the list has nothing of worth.
+    /// `Memory` where there is none left, and never where the lease isn't breaking. The manager has forgotten all but its rules
+    /// and files then, as a new one, and the list has nothing of worth.
     pub fn expire(&mut self, client: ClientNo, key: LeaseKey, decisions: &mut Vec<Decision>) -> Result<(), Memory> {
         self.call(Coming::Expires(LeaseName { client, bytes: key }), decisions)
     }
@@ -245,8 +248,8 @@ impl Manager {
         self.tables.allowed(own_key(client, key), file, want)
     }
 
-    /// Whether no other key on the file than this one of the client's holds handles, or is in the way of a change: one that caches
-    /// writes is, and one that caches anything and isn't breaking to nothing (own). With no key each other key counts.
+    /// Whether no other key on the file than this one of the client's holds handles, or is in the way of a change: one that
+    /// caches writes is, and one that caches anything and isn't breaking to nothing (own). With no key each other key counts.
     pub fn is_given_up(&self, client: ClientNo, key: Option<LeaseKey>, file: FileNo, extent: Extent) -> bool {
         self.tables.is_given_up(own_key(client, key), file, extent)
     }

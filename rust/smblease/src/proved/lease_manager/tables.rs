@@ -14,14 +14,17 @@ use std::collections::BTreeSet;
 
 mod changes;
 pub mod file_summary;
+mod files;
 pub mod lease_marks;
 mod listings;
 mod looks;
+pub mod multimap;
 pub mod open_index;
 pub mod opens;
 pub mod parting;
 pub mod queue;
 pub mod queues;
+mod restoring;
 pub mod sets;
 mod still;
 pub mod summaries;

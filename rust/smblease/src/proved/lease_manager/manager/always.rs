@@ -5,11 +5,11 @@ use crate::proved::lease_manager::manager::Manager;
 impl Manager {
     /// What holds of every manager, whatever was asked of it (MS-SMB2 3.3.1.10, 3.3.1.12). Where a lease caches writes, every
     /// open on a file where its key has one has that key. No two opens on a file conflict. An open that isn't connected is
-    /// durable, and its lease holds `HANDLE_CACHING` and isn't breaking. A state that a lease is broken to is a proper part of its
-    /// state. The client of a connected open is connected, and so is the client of a request that waits. What waits where no
-    /// earlier request goes first waits for another key's lease on its file to be acknowledged: a create for any that is
-    /// breaking, a write for one that is breaking to something. So on a file of which no lease is breaking nothing waits. All that `lease_laws` says of a server that is sound and waits well
-    /// holds of its server. Does nothing.
+    /// durable, and its lease holds `HANDLE_CACHING` and isn't breaking. A state that a lease is broken to is a proper part of
+    /// its state. The client of a connected open is connected, and so is the client of a request that waits. What waits where
+    /// no earlier request goes first waits for another key's lease on its file to be acknowledged: a create for any that is
+    /// breaking, a write for one that is breaking to something. So on a file of which no lease is breaking nothing waits. All
+    /// that `lease_laws` says of a server that is sound and waits well holds of its server. Does nothing.
     pub fn laws(&self) {
         let _tables = &self.tables;
     }

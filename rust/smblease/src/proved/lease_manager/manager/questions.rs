@@ -20,9 +20,9 @@ impl Manager {
         self.tables.writes_at_once(client, fid)
     }
 
-    /// Where `may_read` or `may_write` is true, to ask for the read or the write, under whatever tag, decides that it goes on and
-    /// nothing else, and opens, leases and what waits stay as they are. Where `may_read` is false a read that is asked is refused or
-    /// waits, or nothing is decided, its client not being connected. Does nothing.
+    /// Where `may_read` or `may_write` is true, to ask for the read or the write, under whatever tag, decides that it goes on
+    /// and nothing else, and opens, leases and what waits stay as they are. Where `may_read` is false a read that is asked is
+    /// refused or waits, or nothing is decided, its client not being connected. Does nothing.
     pub fn law_of_questions(&self) {
         let _tables = &self.tables;
     }

@@ -119,8 +119,8 @@ impl Tables {
         self.last_id
     }
 
-    /// One more open, whose client is there, which has the next FileId, and whose key has no open on
-    /// another file. The lease of its key becomes this one.
+    /// One more open, whose client is there, whose FileId comes after that given last, and whose key has no open on another
+    /// file. The lease of its key becomes this one.
     ///
     /// # Errors
     ///
@@ -137,6 +137,28 @@ impl Tables {
             }
             Err(memory) => {
                 self.waiting.clear();
+                forget_opens(&mut self.opens, &mut self.summaries, alloc);
+                Err(memory)
+            }
+        }
+    }
+
+    /// This FileId was given last, where none after it was.
+    pub fn raise_last_id(&mut self, last: FileId) {
+        self.last_id = last.0;
+    }
+
+    /// The open of this FileId waits for its client. No lease is breaking.
+    ///
+    /// # Errors
+    ///
+    /// `Memory` where there is none left for it; no open is left then.
+    pub fn disconnect(&mut self, fid: FileId) -> Result<(), Memory> {
+        let alloc = self.alloc();
+        self.waiting.clear();
+        match self.opens.disconnect(alloc, fid) {
+            Ok(()) => Ok(()),
+            Err(memory) => {
                 forget_opens(&mut self.opens, &mut self.summaries, alloc);
                 Err(memory)
             }
@@ -202,10 +224,10 @@ fn forget_queues(queues: &mut Queues, waiting: &mut Waiting, files: &[FileNo], c
 
 // The same on one file. Where none of them waits, what is known of the others stays.
 fn forget_queue(queues: &mut Queues, waiting: &mut Waiting, file: FileNo, client: ClientNo) {
-    if is_any_of(queues.at(file), client) {
+    if queues.has_of(file, client) {
         waiting.forget(file);
-        queues.forget(file, client);
     }
+    queues.forget(file, client);
 }
 
 // The requests of the client under these tags no longer wait on these files.
@@ -240,15 +262,10 @@ fn opens_settled(known: bool, opens: &Opens, summaries: &Summaries, alloc: Globa
 
 // The same on one file. Where the client has no request, what is known of the others stays.
 fn leave_queue(queues: &mut Queues, waiting: &mut Waiting, file: FileNo, client: ClientNo, tags: &[Tag]) {
-    if is_any_of(queues.at(file), client) {
+    if queues.has_of(file, client) {
         waiting.forget(file);
         queues.leave(file, client, tags);
     }
-}
-
-// Whether a request of the client is among these.
-fn is_any_of(queue: &[Held], client: ClientNo) -> bool {
-    queue.iter().any(|one| one.client == client)
 }
 
 // The client is no longer connected.

@@ -2,6 +2,7 @@
 
 use std::prelude::Vec;
 
+use crate::proved::lease_manager::tables::multimap::Multimap;
 use crate::proved::lease_manager::tables::sets::Sets;
 use crate::proved::lease_manager::values::key::LeaseName;
 use crate::proved::lease_manager::values::number::ClientNo;
@@ -20,13 +21,13 @@ pub struct OpenIndex {
     /// The opens that wait for their clients (MS-SMB2 3.3.7.1), by client and file.
     left: Sets<Owner, FileId>,
     /// The opens that have a lease, by its key.
-    leased: Sets<LeaseName, FileId>,
+    leased: Multimap<LeaseName, FileId>,
 }
 
 impl OpenIndex {
     /// Of no opens. Allocates nothing.
     pub fn new(alloc: Global) -> OpenIndex {
-        OpenIndex { connected: Sets::new(alloc), left: Sets::new(alloc), leased: Sets::new(alloc) }
+        OpenIndex { connected: Sets::new(alloc), left: Sets::new(alloc), leased: Multimap::new(alloc) }
     }
 
     /// The client's connected opens, rising.
@@ -93,7 +94,7 @@ impl OpenIndex {
 }
 
 // One more open is listed under its key, if it has one.
-fn gain_key(leased: &mut Sets<LeaseName, FileId>, alloc: Global, one: &OpenEntry) -> Result<(), Memory> {
+fn gain_key(leased: &mut Multimap<LeaseName, FileId>, alloc: Global, one: &OpenEntry) -> Result<(), Memory> {
     match one.key() {
         Some(key) => leased.insert(alloc, key, one.file_id),
         None => Ok(()),
@@ -101,7 +102,7 @@ fn gain_key(leased: &mut Sets<LeaseName, FileId>, alloc: Global, one: &OpenEntry
 }
 
 // An open is no longer listed under its key.
-fn lose_key(leased: &mut Sets<LeaseName, FileId>, one: &OpenEntry) {
+fn lose_key(leased: &mut Multimap<LeaseName, FileId>, one: &OpenEntry) {
     match one.key() {
         Some(key) => leased.remove(key, one.file_id),
         None => {}

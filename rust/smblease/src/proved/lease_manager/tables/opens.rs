@@ -5,6 +5,7 @@ use std::prelude::Vec;
 use crate::proved::lease_manager::tables::open_index::OpenIndex;
 use crate::proved::lease_manager::tables::summaries::Summaries;
 use crate::proved::lease_manager::values::closing::Closing;
+use crate::proved::lease_manager::values::kept::KeptOpen;
 use crate::proved::lease_manager::values::key::LeaseName;
 use crate::proved::lease_manager::values::number::{ClientNo, FileNo};
 use crate::proved::lease_manager::values::open::{ListedOpen, OpenEntry};
@@ -42,6 +43,23 @@ impl Opens {
             opens.push(one.listed())?;
         }
         Ok(opens)
+    }
+
+    /// Those that outlive a connection, where these are the leases, as they are kept over a restart, in the order of their
+    /// FileIds.
+    ///
+    /// # Errors
+    ///
+    /// `Memory` where there is none left for the list.
+    pub fn kept(&self, alloc: Global, leases: &Summaries) -> Result<Vec<KeptOpen>, Memory> {
+        let mut kept = Vec::new(alloc);
+        for one in self.by_id.values() {
+            match one.kept(leases.under(one)) {
+                Some(open) => kept.push(open)?,
+                None => {}
+            }
+        }
+        Ok(kept)
     }
 
     /// One more open, whose client is there, and whose FileId is above those of all others.
@@ -171,6 +189,34 @@ impl Opens {
     /// `Memory` where there is none left for the list.
     pub fn of_client(&self, alloc: Global, client: ClientNo) -> Result<Vec<FileId>, Memory> {
         self.index.of_client(alloc, client)
+    }
+
+    /// The files of the client's connected opens, in the order of their FileIds.
+    ///
+    /// # Errors
+    ///
+    /// `Memory` where there is none left for the list.
+    pub fn files_of_client(&self, alloc: Global, client: ClientNo) -> Result<Vec<FileNo>, Memory> {
+        let ids = self.of_client(alloc, client)?;
+        let files = self.files_of(alloc, &ids)?;
+        Ok(files)
+    }
+
+    // The files of the opens of these FileIds.
+    fn files_of(&self, alloc: Global, ids: &[FileId]) -> Result<Vec<FileNo>, Memory> {
+        let mut files = Vec::new(alloc);
+        for fid in ids {
+            files.push(self.file_of(*fid))?;
+        }
+        Ok(files)
+    }
+
+    // The file of the open of this FileId; 0 where there is none.
+    fn file_of(&self, fid: FileId) -> FileNo {
+        match self.find(fid) {
+            Some(one) => one.file,
+            None => FileNo(0),
+        }
     }
 
     /// Those of the FileIds by which the client has a connected open, each once, in their order.

@@ -7,6 +7,7 @@ use crate::proved::lease_manager::values::open::OpenEntry;
 use crate::proved::lease_manager::values::request::Held;
 use crate::proved::lease_state::Memory;
 use std::alloc::Global;
+use std::collections::BTreeSet;
 
 /// What waits on a file, in order of arrival.
 // docs/DECISIONS.md: "The front of a queue".
@@ -16,12 +17,14 @@ pub struct Queue {
     items: Vec<Held>,
     /// How many no longer wait, which is at most half of them.
     gone: usize,
+    /// The clients of those that wait, and perhaps of some that no longer do.
+    clients: BTreeSet<ClientNo>,
 }
 
 impl Queue {
     /// Nothing waits. Allocates nothing.
     pub fn new(alloc: Global) -> Queue {
-        Queue { items: Vec::new(alloc), gone: 0 }
+        Queue { items: Vec::new(alloc), gone: 0, clients: BTreeSet::new(alloc) }
     }
 
     /// What waits.
@@ -35,6 +38,7 @@ impl Queue {
     ///
     /// `Memory` where there is none left for it; nothing has changed then.
     pub fn push(&mut self, one: Held) -> Result<(), Memory> {
+        self.clients.insert(one.client)?;
         self.items.push(one)?;
         Ok(())
     }
@@ -52,8 +56,16 @@ impl Queue {
         }
     }
 
+    /// Whether a request of the client waits.
+    pub fn has_of(&self, client: ClientNo) -> bool {
+        self.clients.contains(&client) && is_any_of(self.as_slice(), client)
+    }
+
     /// The requests of the client no longer wait.
     pub fn forget(&mut self, client: ClientNo) {
+        if !self.clients.remove(&client) {
+            return;
+        }
         let_go(&mut self.items, self.gone);
         self.gone = 0;
         forget_of(&mut self.items, client);
@@ -77,6 +89,11 @@ impl Queue {
     pub fn asks_with(&self, one: &OpenEntry) -> bool {
         one_asks_with(self.as_slice(), one)
     }
+}
+
+// Whether a request of the client is among these.
+fn is_any_of(queue: &[Held], client: ClientNo) -> bool {
+    queue.iter().any(|one| one.client == client)
 }
 
 // Whether a create is among these under the key of the open.

@@ -71,6 +71,14 @@ impl Queues {
         }
     }
 
+    /// Whether a request of the client waits on the file.
+    pub fn has_of(&self, file: FileNo, client: ClientNo) -> bool {
+        match self.by_file.get(&file) {
+            Some(queue) => queue.has_of(client),
+            None => false,
+        }
+    }
+
     /// The requests of the client no longer wait on the file.
     pub fn forget(&mut self, file: FileNo, client: ClientNo) {
         self.forgotten(file, client);

@@ -69,10 +69,31 @@ impl<K: Ord + Copy, V: Ord + Copy> Sets<K, V> {
         }
     }
 
+    /// The key no longer has its first value, if it had one.
+    pub fn take_first(&mut self, key: K) -> Option<V> {
+        match self.by_key.get_mut(&key) {
+            Some(values) => {
+                let first = taken_first(values);
+                if values.is_empty() {
+                    self.by_key.remove(&key);
+                }
+                first
+            }
+            None => None,
+        }
+    }
+
     /// The key no longer has values.
     pub fn clear(&mut self, key: K) {
         self.by_key.remove(&key);
     }
+}
+
+// The first value, which goes.
+fn taken_first<V: Ord + Copy>(values: &mut BTreeSet<V>) -> Option<V> {
+    let first = *values.first()?;
+    values.remove(&first);
+    Some(first)
 }
 
 /// The values, rising.

@@ -4,7 +4,8 @@
 #[derive(Clone, Copy, Debug, PartialEq, Eq, PartialOrd, Ord, Hash)]
 pub struct ClientNo(pub u64);
 
-/// A file's number, which its host gives it. Every number from 1 on is a file's, and a host need not say beforehand which it will use.
+/// A file's number, which its host gives it. Every number from 1 on is a file's, and a host need not say beforehand which it
+/// will use.
 #[derive(Clone, Copy, Debug, PartialEq, Eq, PartialOrd, Ord, Hash)]
 pub struct FileNo(pub u64);
 

@@ -1,5 +1,6 @@
 // Made by tools/plain_rust from crates/lease_manager/src/values/open.rt. Changes belong there.
 
+use crate::proved::lease_manager::values::kept::KeptOpen;
 use crate::proved::lease_manager::values::key::LeaseName;
 use crate::proved::lease_manager::values::lease::HeldLease;
 use crate::proved::lease_manager::values::number::{ClientNo, FileNo};
@@ -115,6 +116,26 @@ impl OpenEntry {
     /// MS-SMB2 3.3.7.1).
     pub fn outlives_connection(&self, lease: HeldLease) -> bool {
         self.durable && lease.state.caches_handles() && !lease.is_breaking()
+    }
+
+    /// What is kept of the open over a restart, where it stands under this lease; `None` where it doesn't outlive its client's
+    /// connection.
+    pub fn kept(&self, lease: HeldLease) -> Option<KeptOpen> {
+        if !self.outlives_connection(lease) {
+            return None;
+        }
+        match self.lease_key {
+            Some(key) => Some(KeptOpen {
+                file_id: self.file_id,
+                client: self.client,
+                file: self.file,
+                key,
+                access: self.access,
+                share: self.share,
+                state: lease.state,
+            }),
+            None => None,
+        }
     }
 
     /// The open's client is there, or is away.

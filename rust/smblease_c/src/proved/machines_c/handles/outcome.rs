@@ -13,6 +13,10 @@ pub enum Outcome {
     Nothing,
     /// A number stands for nothing, and nothing changed.
     NoSuch,
+    /// Bytes hold no opens, and nothing changed.
+    Damaged,
+    /// Opens would break a law that holds of every manager, and nothing changed.
+    Unlawful,
 }
 
 impl Outcome {
@@ -24,6 +28,8 @@ impl Outcome {
             Outcome::Lost => 2,
             Outcome::Nothing => 3,
             Outcome::NoSuch => 4,
+            Outcome::Damaged => 5,
+            Outcome::Unlawful => 6,
         }
     }
 }

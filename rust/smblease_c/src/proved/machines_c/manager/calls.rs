@@ -69,8 +69,8 @@ pub fn smblease_manager_scavenge(alloc: Global, manager: &mut ManagerHandle, fil
     manager.call(alloc, Coming::Scavenges(FileId(file_id))).code()
 }
 
-/// A request of a client that waits on the file under the tag is taken back (3.3.5.16). Where none
-/// waits nothing changes. The outcomes are those of `smblease_manager_join`.
+/// A request or a change of a client that waits on the file under the tag is taken back (3.3.5.16). Where
+/// none waits nothing changes. The outcomes are those of `smblease_manager_join`.
 pub fn smblease_manager_withdraw(alloc: Global, manager: &mut ManagerHandle, client: u64, tag: u64, file: u64) -> u32 {
     manager.call(alloc, Coming::Withdraws(FileNo(file), ClientNo(client), Tag(tag))).code()
 }

@@ -3,6 +3,7 @@
 use smblease::proved::break_timers::BreakNo;
 use smblease::proved::lease_manager::{Ask, ClientNo, Extent, FileNo, Tag};
 use smblease::proved::lease_state::{FileId, LeaseKey, LeaseState};
+use smblease::proved::waiting_changes::Change;
 
 /// What comes to a manager.
 #[derive(Clone, Copy, Debug)]
@@ -27,4 +28,6 @@ pub enum Coming {
     Withdraws(FileNo, ClientNo, Tag),
     /// Other keys on a file than this one of the client's, or all, are to give up what they hold.
     GivesUp(ClientNo, Option<LeaseKey>, FileNo, Extent),
+    /// A change is asked for that no open of a client asks for.
+    Changes(Change),
 }

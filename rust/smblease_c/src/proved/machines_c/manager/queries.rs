@@ -32,12 +32,13 @@ pub fn smblease_manager_breaking(alloc: Global, manager: &mut ManagerHandle, cli
     }
 }
 
-/// 1 where a request of the client under the tag waits on the file, and else 0.
+/// 1 where a request or a change of the client waits on the file under the tag, and else 0.
 pub fn smblease_manager_waiting(alloc: Global, manager: &mut ManagerHandle, client: u64, tag: u64, file: u64) -> u32 {
     match manager.take(alloc) {
         None => 0,
         Some(managing) => {
-            let is_waiting = managing.manager.is_waiting(FileNo(file), ClientNo(client), Tag(tag));
+            let (file, client, tag) = (FileNo(file), ClientNo(client), Tag(tag));
+            let is_waiting = managing.manager.is_waiting(file, client, tag) || managing.changes.is_waiting(file, client, tag);
             manager.put(alloc, managing);
             u32::from(is_waiting)
         }

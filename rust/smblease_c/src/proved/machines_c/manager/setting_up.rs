@@ -8,13 +8,19 @@ use crate::proved::machines_c::manager::listed::Listed;
 use crate::proved::machines_c::manager::managing::Managing;
 use smblease::proved::break_timers::BreakTimers;
 use smblease::proved::lease_manager::{FileNo, Manager};
-use smblease::proved::lease_state::{Memory, Rules};
+use smblease::proved::lease_state::Memory;
+use smblease::proved::waiting_changes::WaitingChanges;
 use std::alloc::Global;
 
-// A manager of these rules in a box, where nothing is open.
-fn managing(alloc: Global, rules: Rules, files: u64) -> Result<Box<Managing>, Memory> {
+/// A manager in a box, of which nothing was asked.
+///
+/// # Errors
+///
+/// `Memory` where there is none left for the box.
+pub fn managing(alloc: Global, manager: Manager) -> Result<Box<Managing>, Memory> {
     let made = Managing {
-        manager: Manager::with_files(alloc, rules, FileNo(files)),
+        manager,
+        changes: WaitingChanges::new(alloc),
         decisions: Vec::new(alloc),
         timers: BreakTimers::new(alloc),
         numbers: Vec::new(alloc),
@@ -32,7 +38,7 @@ fn managing(alloc: Global, rules: Rules, files: u64) -> Result<Box<Managing>, Me
 pub fn smblease_manager_new(alloc: Global, manager: &mut ManagerHandle, order: u32, rise: u32, files: u64) -> u32 {
     match rules_of(order, rise) {
         None => Outcome::NoSuch.code(),
-        Some(rules) => match managing(alloc, rules, files) {
+        Some(rules) => match managing(alloc, Manager::with_files(alloc, rules, FileNo(files))) {
             Ok(made) => {
                 manager.put(alloc, made);
                 Outcome::Done.code()
