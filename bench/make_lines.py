@@ -4,11 +4,12 @@
 In each turn of a record, which is laid out as `leasecheck replay` prints one, a client opens a file, is granted all and buffers a
 write; another opens it too, the lease is broken, the write is sent and accepted, and both lose what they have. In each turn of a
 schedule a client opens a file, writes into its cache and reads from it; another opens the file too, and the first gives up what
-it caches and both close."""
+it caches and both close. In each turn of a dense schedule, of two clients without leases and a file of 20,000 bytes, one writes
+three times and the other reads."""
 import sys
 from typing import List
 
-USAGE = 'usage: bench/make_lines.py record|schedule COUNT FILE'
+USAGE = 'usage: bench/make_lines.py record|schedule|dense COUNT FILE'
 
 
 def turn_facts(turn: int) -> List[str]:
@@ -43,11 +44,24 @@ def schedule(count: int) -> List[str]:
     return ['file 616263'] * 8 + [f'client {client:032x}' for client in range(1, 9)] + events[:count]
 
 
+def dense(count: int) -> List[str]:
+    events = ['connect 1', 'connect 2']
+    for client in 1, 2:
+        events += [f'open {client} 1 rw rw none', f'serve {client}', f'take {client}']
+    for turn in range(count // 12 + 1):
+        for write in range(3):
+            events += [f'write 1 1 {(turn * 977 + write * 331) % 20000} {(turn * 3 + write) % 65536:04x}', 'serve 1', 'take 1']
+        events += ['read 2 1', 'serve 2', 'take 2']
+    return [f'file {"61" * 20000}', f'client {1:032x}', f'client {2:032x}'] + events[:count]
+
+
+KINDS = {'record': record, 'schedule': schedule, 'dense': dense}
+
 if __name__ == '__main__':
     if sys.argv[1:] == ['--help']:
         print(f'{USAGE}\n\n{__doc__}')
-    elif len(sys.argv) != 4 or sys.argv[1] not in ('record', 'schedule') or not sys.argv[2].isdecimal():
+    elif len(sys.argv) != 4 or sys.argv[1] not in KINDS or not sys.argv[2].isdecimal():
         sys.exit(USAGE)
     else:
         with open(sys.argv[3], 'w', encoding='ascii') as text:
-            text.writelines(f'{line}\n' for line in (record if sys.argv[1] == 'record' else schedule)(int(sys.argv[2])))
+            text.writelines(f'{line}\n' for line in KINDS[sys.argv[1]](int(sys.argv[2])))

@@ -74,6 +74,8 @@ static void calls_of_nothing(void) {
     IS(smblease_manager_leave(&manager, CLIENT, NULL, 0, NULL, 0), SMBLEASE_NONE);
     IS(smblease_manager_give_up(&manager, CLIENT, &none, FILE_NO, SMBLEASE_EXTENT_ALL), SMBLEASE_NONE);
     IS(smblease_manager_give_up(&manager, CLIENT, &none, FILE_NO, 0), SMBLEASE_NO_SUCH);
+    IS(smblease_manager_change(&manager, CLIENT, TAG, &none, FILE_NO, SMBLEASE_EXTENT_ALL), SMBLEASE_NONE);
+    IS(smblease_manager_change(&manager, CLIENT, TAG, &none, FILE_NO, 0), SMBLEASE_NO_SUCH);
     IS(smblease_manager_list_opens(&manager), SMBLEASE_NONE);
     IS(smblease_manager_list_leases(&manager), SMBLEASE_NONE);
     IS(smblease_manager_list_requests(&manager), SMBLEASE_NONE);
@@ -86,6 +88,7 @@ static void questions_of_nothing(void) {
     struct smblease_listed_open listed = {.file_id = 9};
     struct smblease_listed_lease listed_lease = {.client = 9};
     struct smblease_listed_request listed_request = {.client = 9};
+    struct smblease_change change = {.client = 9};
     uint64_t file_id = 9;
     IS(smblease_manager_decision_count(&manager), 0);
     IS(smblease_manager_decision_at(&manager, 0, &decision), SMBLEASE_NONE);
@@ -110,6 +113,8 @@ static void questions_of_nothing(void) {
     IS(listed_lease.client, 9);
     IS(smblease_manager_listed_request_at(&manager, 0, &listed_request), SMBLEASE_NONE);
     IS(listed_request.client, 9);
+    IS(smblease_manager_change_at(&manager, 0, &change), SMBLEASE_NONE);
+    IS(change.client, 9);
     smblease_manager_free(&manager);
     IS(manager.state != NULL, 0);
 }
@@ -361,6 +366,88 @@ static void left(void) {
     IS(smblease_manager_has_open(&manager, 8), 1);
 }
 
+/* The change at the index is this one, and the last. */
+static void change_is(size_t index, struct smblease_change wanted, int line) {
+    struct smblease_change had;
+    memset(&had, 0xa5, sizeof had);
+    is(smblease_manager_change_at(&manager, index, &had), SMBLEASE_DONE, line);
+    is(memcmp(&had, &wanted, sizeof had) != 0, 0, line);
+    memset(&had, 0xa5, sizeof had);
+    is(smblease_manager_change_at(&manager, index + 1, &had), SMBLEASE_NO_SUCH, line);
+    is(had.client, UINT64_C(0xa5a5a5a5a5a5a5a5), line);
+}
+
+/* By a client's key, which gives up nothing: at once, and then for another client's lease. */
+static void changed(void) {
+    struct smblease_create_ask ask = {.key = KEY, .state = 3, .has_lease = 1};
+    struct smblease_create_ask other = {.key = OTHER_KEY, .state = 3, .has_lease = 1};
+    struct smblease_maybe_key own = {KEY, 2};
+    DONE(smblease_manager_new(&manager, SMBLEASE_BY_KEY, SMBLEASE_WHOLE, UINT64_MAX));
+    DONE(smblease_manager_join(&manager, CLIENT));
+    DONE(smblease_manager_join(&manager, OTHER));
+    DONE(smblease_manager_create(&manager, CLIENT, TAG, FILE_NO, 3, 3, &ask));
+    DONE(smblease_manager_change(&manager, CLIENT, TAG, &own, FILE_NO, SMBLEASE_EXTENT_ALL));
+    DECIDES({.client = CLIENT, .tag = TAG, .kind = SMBLEASE_DECISION_GOES_ON});
+    IS(smblease_manager_change_at(&manager, 0, &(struct smblease_change){0}), SMBLEASE_NO_SUCH);
+    DONE(smblease_manager_create(&manager, OTHER, LATER_TAG, FILE_NO, 3, 3, &other));
+    IS(smblease_manager_change(&manager, CLIENT, TAG, &own, FILE_NO, 3), SMBLEASE_NO_SUCH);
+    DECIDES({.client = OTHER, .tag = LATER_TAG, .file_id = 2, .key = OTHER_KEY, .kind = SMBLEASE_DECISION_OPENED, .state = 3,
+             .has_lease = 1});
+    DONE(smblease_manager_change(&manager, CLIENT, TAG, &own, FILE_NO, SMBLEASE_EXTENT_HANDLES));
+    DECIDES({.client = OTHER, .key = OTHER_KEY, .kind = SMBLEASE_DECISION_BREAKS, .current_state = 3, .new_state = 1,
+             .ack_required = 1, .number = 1},
+            {.client = CLIENT, .tag = TAG, .kind = SMBLEASE_DECISION_WAITS});
+    change_is(0, (struct smblease_change){.file = FILE_NO, .client = CLIENT, .tag = TAG, .key = KEY, .has_key = 1,
+                                          .extent = SMBLEASE_EXTENT_HANDLES}, __LINE__);
+}
+
+/* By no key, of a client that never joined: both wait, and each goes on once the lease has no handles. */
+static void changes_go_on(void) {
+    struct smblease_acknowledgment given = {.key = KEY, .state = 1}, other_given = {.key = OTHER_KEY, .state = 1};
+    struct smblease_maybe_key none = {KEY, 0};
+    DONE(smblease_manager_change(&manager, 9, LATER_TAG, &none, FILE_NO, SMBLEASE_EXTENT_HANDLES));
+    DECIDES({.client = CLIENT, .key = KEY, .kind = SMBLEASE_DECISION_BREAKS, .current_state = 3, .new_state = 1,
+             .ack_required = 1, .number = 2},
+            {.client = 9, .tag = LATER_TAG, .kind = SMBLEASE_DECISION_WAITS});
+    change_is(1, (struct smblease_change){.file = FILE_NO, .client = 9, .tag = LATER_TAG, .extent = SMBLEASE_EXTENT_HANDLES},
+              __LINE__);
+    IS(smblease_manager_waiting(&manager, 9, LATER_TAG, FILE_NO), 1);
+    IS(smblease_manager_waiting(&manager, 9, TAG, FILE_NO), 0);
+    DONE(smblease_manager_acknowledge(&manager, OTHER, &other_given));
+    DECIDES({.client = OTHER, .key = OTHER_KEY, .kind = SMBLEASE_DECISION_ACKNOWLEDGED, .state = 1},
+            {.client = CLIENT, .tag = TAG, .kind = SMBLEASE_DECISION_GOES_ON});
+    DONE(smblease_manager_withdraw(&manager, 9, TAG, FILE_NO));
+    NOTHING_DECIDED;
+    DONE(smblease_manager_acknowledge(&manager, CLIENT, &given));
+    DECIDES({.client = CLIENT, .key = KEY, .kind = SMBLEASE_DECISION_ACKNOWLEDGED, .state = 1},
+            {.client = 9, .tag = LATER_TAG, .kind = SMBLEASE_DECISION_GOES_ON});
+    IS(smblease_manager_change_at(&manager, 0, &(struct smblease_change){0}), SMBLEASE_NO_SUCH);
+}
+
+/* Taken back, and gone with the client or the tag. */
+static void changes_withdrawn(void) {
+    struct smblease_create_ask ask = {.key = OTHER_KEY, .state = 7, .has_lease = 1};
+    struct smblease_maybe_key none = {KEY, 0};
+    const uint64_t tags[] = {TAG};
+    DONE(smblease_manager_new(&manager, SMBLEASE_BY_KEY, SMBLEASE_WHOLE, UINT64_MAX));
+    DONE(smblease_manager_join(&manager, OTHER));
+    DONE(smblease_manager_create(&manager, OTHER, TAG, 1, 3, 3, &ask));
+    DONE(smblease_manager_change(&manager, 9, TAG, &none, 1, SMBLEASE_EXTENT_ALL));
+    DONE(smblease_manager_change(&manager, CLIENT, LATER_TAG, &none, 1, SMBLEASE_EXTENT_ALL));
+    DONE(smblease_manager_change(&manager, CLIENT, 1, &none, 1, SMBLEASE_EXTENT_ALL));
+    DONE(smblease_manager_leave(&manager, 9, NULL, 0, tags, 1));
+    NOTHING_DECIDED;
+    IS(smblease_manager_waiting(&manager, 9, TAG, 1), 0);
+    DONE(smblease_manager_withdraw(&manager, CLIENT, LATER_TAG, 1));
+    DECIDES({.client = CLIENT, .tag = LATER_TAG, .kind = SMBLEASE_DECISION_WITHDRAWN});
+    change_is(0, (struct smblease_change){.file = 1, .client = CLIENT, .tag = 1, .extent = SMBLEASE_EXTENT_ALL}, __LINE__);
+    DONE(smblease_manager_cut(&manager, CLIENT));
+    NOTHING_DECIDED;
+    IS(smblease_manager_change_at(&manager, 0, &(struct smblease_change){0}), SMBLEASE_NO_SUCH);
+    DONE(smblease_manager_cut(&manager, OTHER));
+    DECIDES({.file_id = 1, .kind = SMBLEASE_DECISION_ENDED});
+}
+
 /* A lease with two opens that is breaking, and one that isn't; a create that waits for it with all that a create has, one that
    has nothing, and a write that waits behind. Each list is there until the next call. */
 static void leases_and_requests_listed(void) {
@@ -441,6 +528,9 @@ int main(void) {
     ran_out();
     gave_up();
     left();
+    changed();
+    changes_go_on();
+    changes_withdrawn();
     leases_and_requests_listed();
     requests_by_opens_listed();
     smblease_manager_free(&manager);

@@ -7,11 +7,11 @@ from __future__ import annotations
 import random
 import sys
 
-from smblease import Manager
 from tests.python.drawn_calls import CALLS, Drawer
+from tests.python.proved_manager import ProvedManager
 
 
-def print_calls(drawer: Drawer, manager: Manager) -> None:
+def print_calls(drawer: Drawer, manager: ProvedManager) -> None:
     """A line for each call of one manager, with what it answers to some questions then."""
     for _ in range(CALLS):
         call = drawer.call()
@@ -25,8 +25,9 @@ def main(words: list[str]) -> None:
     chance = random.Random(seed)
     for _ in range(0, int(calls), CALLS):
         drawer = Drawer(chance)
-        with Manager(drawer.rules, drawer.files) as manager:
-            print_calls(drawer, manager)
+        manager = ProvedManager(drawer.rules, drawer.files)
+        print_calls(drawer, manager)
+        manager.close()
 
 
 if __name__ == "__main__":

@@ -8,7 +8,8 @@ from smblease.drive.headers import Command, Message
 from smblease.serve.create_parameters import CREATE, DELETE_ON_CLOSE, OPEN, OVERWRITE, OVERWRITE_IF
 from smblease.serve.server_process import ServerProcess
 from tests.serve.conftest import Connect
-from tests.serve.requests import KEY, acknowledge_oplock, acknowledgment, close, create, leased, lock, read, set_info, write
+from tests.serve.requests import (KEY, acknowledge_oplock, acknowledgment, close, create, leased, lock, read, rename, set_info,
+                                  write)
 
 DELETING = 0x13019F
 UNLOCK = 4
@@ -34,7 +35,7 @@ def test_an_overwrite_of_an_open_file(served: ServerProcess, connect: Connect) -
 
 
 def test_an_overwrite_while_a_lease_is_being_broken(served: ServerProcess, connect: Connect) -> None:
-    """Its client is asked for what is left once it has acknowledged that."""
+    """It goes before the create that the lease is being broken for. What is left is given up handles first."""
     one, other, third = connect(served), connect(served), connect(served)
     one.open(leased("file", KEY, "RWH"))
     opening = other.send(create("file"))
@@ -42,10 +43,45 @@ def test_an_overwrite_while_a_lease_is_being_broken(served: ServerProcess, conne
     number = third.send(create("file", disposition=OVERWRITE))
     assert third.receive().status == Status.PENDING
     assert one.status(acknowledgment(KEY, "RH")) == Status.SUCCESS
-    assert other.answer_to(opening).status == Status.SUCCESS
+    assert one.receive().number(92, 4) == 1, "a break to R"
+    assert one.status(acknowledgment(KEY, "R")) == Status.SUCCESS
     assert one.receive().number(92, 4) == 0, "a break of what is left, which only reads"
     assert end_of_file(third.answer_to(number)) == 0
-    assert one.status(acknowledgment(KEY, "none")) == Status.SUCCESS
+    assert other.answer_to(opening).status == Status.SUCCESS
+
+
+@pytest.mark.parametrize("disposition", [OPEN, OVERWRITE])
+def test_a_create_opens_what_has_its_name_once_it_has_waited(served: ServerProcess, connect: Connect, disposition: int) -> None:
+    """Whoever caches the file may rename it first, and another may be made in its place."""
+    one, other = connect(served), connect(served)
+    contexts = CreateAsk(KEY, LeaseState.of("RWH")).write()
+    first = one.open(create("file", access=DELETING, level=LEASE, contexts=contexts))
+    one.ask(write(first, 0, b"longer"))
+    number = other.send(create("file", disposition=disposition))
+    assert other.receive().status == Status.PENDING
+    broken = LeaseState(one.receive().number(92, 4))
+    assert one.status(rename(first, "moved")) == Status.SUCCESS
+    second = one.open(create("file"))
+    one.ask(write(second, 0, b"it"))
+    one.ask(acknowledgment(KEY, str(broken)))
+    assert end_of_file(other.answer_to(number)) == (2 if disposition == OPEN else 0)
+    assert one.ask(read(first)).part(80, 6) == b"longer"
+
+
+def test_what_is_taken_back_of_a_create_that_stepped_back(served: ServerProcess, connect: Connect) -> None:
+    one, other, third = connect(served), connect(served), connect(served)
+    one.open(leased("file", KEY, "RWH"))
+    opening, more = other.send(create("file")), other.send(create("file"))
+    assert [other.receive().status for _ in range(2)] == 2 * [Status.PENDING]
+    number = third.send(create("file", disposition=OVERWRITE))
+    assert third.receive().status == Status.PENDING
+    other.send_cancel(opening)
+    assert other.answer_to(opening).status == Status.CANCELLED
+    third.send_cancel(number)
+    assert third.answer_to(number).status == Status.CANCELLED
+    one.receive()
+    assert one.status(acknowledgment(KEY, "RH")) == Status.SUCCESS
+    assert other.answer_to(more).status == Status.SUCCESS
 
 
 def test_an_overwrite_that_conflicts(served: ServerProcess, connect: Connect) -> None:
