@@ -14,7 +14,7 @@ unfolding asked_for_all managed_along
 along [] now = refl
 along (one ∷ changes) now = along changes (asked_for one now)
 
-counted : {X : Type 0} (picked test : X → Bool) (xs : List X) → length (filter test xs)
+pub counted : {X : Type 0} (picked test : X → Bool) (xs : List X) → length (filter test xs)
     ≡ length (filter test (filter picked xs)) + length (filter test (without picked xs))
 counted picked test [] = refl
 counted picked test (x ∷ xs) =
@@ -60,7 +60,6 @@ unfolding changed
 changes_are_answered manager waiting one =
     let before : Going = tried_after None [] (going_with waiting
     (give_up manager (own_of one) one.file.0 (extent_of one.extent))) in record {
-      before = before;
       same = same_manager one before;
       becomes = becomes one before;
     }

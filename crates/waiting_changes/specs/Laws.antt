@@ -1,10 +1,11 @@
 -- What holds of changes that wait, whatever the manager and whatever waits.
-use Rattle.std.specs.Prelude.{◌≡◌, ◌+◌, ℕ, Bool, true, false, List, [], ◌∷◌, ◌++◌, map, filter, length}
+use Rattle.std.specs.Prelude.{◌≡◌, ◌+◌, ℕ, Bool, true, false, None, List, [], ◌∷◌, ◌++◌, map, filter, length}
 use Rattle.lease_laws.specs.server.Laws.{Among}
 use Rattle.lease_manager.specs.GivingUp.{extent_of}
 use Rattle.manager_model.specs.Handling.{Handling, Manager}
 use Rattle.manager_model.specs.Hosting.{Coming, managed}
-use Rattle.waiting_changes.specs.Changes.{Going, changed, goes_on, handling_in, is_free, is_on, own_of, tried_on, waits}
+use Rattle.waiting_changes.specs.Changes.{Going, changed, goes_on, handling_in, is_free, is_on, own_of, tried_after, tried_on}
+use Rattle.waiting_changes.specs.Changes.{waits}
 use Rattle.waiting_changes.specs.declared.change.Change.{Change}
 
 -- the call of the manager by which others give up what is in a change's way
@@ -50,11 +51,18 @@ pub data Becomes (one : Change) (before after : Going) : Type 0 where
   Waits : (in_the_way : is_free after.manager.server one ≡ false) (told : after.told ≡ before.told ++ waits one ∷ [])
       (waiting : after.waiting ≡ before.waiting ++ one ∷ []) → Becomes one before after
 
--- A change is asked for: others give up, and where that closed an open what waits was tried before.
+-- others give up what is in the change's way, and where that closed an open what waits is tried
+abbrev pub after_giving_up : Manager → List Change → Change → Going
+after_giving_up manager waiting one = tried_after None [] (record {
+  manager = (managed manager (call_for one)).manager;
+  waiting = waiting;
+  told = (managed manager (call_for one)).told;
+})
+
+-- A change is asked for: after that it goes on or waits, and nothing else is done.
 pub record IsAskedFor (manager : Manager) (waiting : List Change) (one : Change) (after : Going) : Type 0 where
-  pub before : Going
-  pub same : after.manager ≡ before.manager
-  pub becomes : Becomes one before after
+  pub same : after.manager ≡ (after_giving_up manager waiting one).manager
+  pub becomes : Becomes one (after_giving_up manager waiting one) after
 
 abbrev pub ChangesAreAnswered : Type 0
 ChangesAreAnswered = (manager : Manager) (waiting : List Change) (one : Change)
