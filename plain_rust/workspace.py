@@ -44,14 +44,14 @@ PACKAGES = (
         "smblease",
         (
             *("lease_state", "lease_wire", "lease_manager", "break_timers", "share_server", "lease_client", "lease_facts"),
-            *("lease_world", "kept_opens", "waiting_changes"),
+            *("lease_world", "kept_opens", "waiting_changes", "capture_wire", "lease_wire_v2", "lease_versions"),
         ),
     ),
     Package("smblease_c", ("lease_c", "machines_c")),
     Package(
         "leasecheck",
         (
-            *("capture_wire", "lease_wire_v2", "lease_versions", "capture_judge", "capture_walk", "lease_reasons", "lease_texts"),
+            *("capture_judge", "capture_walk", "lease_reasons", "lease_texts"),
             *("capture_texts", "lease_lines", "record_words", "text_laws", "leasecheck"),
         ),
     ),

@@ -17,6 +17,7 @@ from smblease.steps import (Answer, Believes, CachedRead, Done, Failed, FileByte
 from smblease.values import (Access, Extent, LeaseState, Order, Rise, Rules, Share, Status, granted_form, is_within,
                              needs_acknowledgment, opens_conflict)
 from smblease.version import VERSION
+from smblease.versions import Versions, VersionsAsk
 
 __version__ = VERSION
 __all__ = [
@@ -26,6 +27,6 @@ __all__ = [
     "LeaseState", "ListedLease", "ListedOpen", "ListedRequest", "MachineLost", "Manager", "MessageKind", "Note",
     "Notification", "Opened", "Order", "Out", "Quiet", "ReadDone", "ReadFailed", "ReadRequest", "Refusal", "Refused",
     "Reply", "Request", "Response", "Rise", "Rules", "Sent", "Server", "Settled", "Settlement", "Share", "Status", "Step",
-    "Waiting", "WaitingKind", "WriteDone", "WriteFailed", "WriteRequest", "Wrote", "append_context", "each_context",
+    "Versions", "VersionsAsk", "Waiting", "WaitingKind", "WriteDone", "WriteFailed", "WriteRequest", "Wrote", "append_context", "each_context",
     "find_context", "granted_form", "is_within", "lease_key", "needs_acknowledgment", "opens_conflict", "replace_data",
 ]

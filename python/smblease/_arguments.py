@@ -2,7 +2,7 @@
 import ctypes
 import operator
 import uuid
-from typing import Any, Tuple, Union
+from typing import Any, Sequence, Tuple, Union
 
 Octets = Union[bytes, bytearray, memoryview]
 
@@ -55,3 +55,9 @@ def counted(value: Octets, name: str = "this argument") -> Tuple[bytes, int]:
     """Bytes, and how many they are."""
     given = octets(value, name)
     return given, len(given)
+
+
+def longs(values: Sequence[int], name: str) -> Any:
+    """Numbers of 64 bits as an array, or None of none."""
+    given = [number(value, LONG, name) for value in values]
+    return (ctypes.c_uint64 * len(given))(*given) if given else None

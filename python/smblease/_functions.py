@@ -9,6 +9,7 @@ _ROOM = (POINTER(c_char), c_size_t)
 _CLIENT = POINTER(structs.Client)
 _SERVER = POINTER(structs.Server)
 _MANAGER = POINTER(structs.Manager)
+_VERSIONS = POINTER(structs.Versions)
 _KEY = POINTER(structs.Key)
 
 Signature = Tuple[Any, Tuple[Any, ...]]
@@ -135,4 +136,14 @@ MANAGER: Dict[str, Signature] = {
     "manager_import": (c_uint32, (_MANAGER, c_uint32, c_uint32, c_uint64, *_BYTES)),
 }
 
-FUNCTIONS: Dict[str, Signature] = {**CODEC, **STATES, **CLIENT, **SERVER, **MANAGER}
+VERSIONS: Dict[str, Signature] = {
+    "versions_new": (c_uint32, (_VERSIONS,)),
+    "versions_free": (None, (_VERSIONS,)),
+    "versions_asked": (c_uint32, (_VERSIONS, c_uint64, c_uint64, c_uint8, *_BYTES, POINTER(structs.VersionsAsk))),
+    "versions_closing": (c_uint32, (_VERSIONS, c_uint64, c_uint64, c_uint64)),
+    "versions_forget": (c_uint32, (_VERSIONS, c_uint64)),
+    "versions_leave": (c_uint32, (_VERSIONS, c_uint64, POINTER(c_uint64), c_size_t)),
+    "versions_follow": (c_uint32, (_VERSIONS, _MANAGER, c_size_t, c_uint32, POINTER(structs.VersionsMessage))),
+}
+
+FUNCTIONS: Dict[str, Signature] = {**CODEC, **STATES, **CLIENT, **SERVER, **MANAGER, **VERSIONS}

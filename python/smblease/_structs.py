@@ -130,3 +130,15 @@ class ListedRequest(ctypes.Structure):
 class Change(ctypes.Structure):
     _fields_ = [("file", c_uint64), ("client", c_uint64), ("tag", c_uint64), ("key", c_uint8 * 16), ("extent", c_uint32),
                 ("has_key", c_uint8), ("reserved", c_uint8 * 11)]
+
+
+class Versions(ctypes.Structure):
+    _fields_ = [("state", ctypes.c_void_p)]
+
+
+class VersionsAsk(ctypes.Structure):
+    _fields_ = [("ask", CreateAsk), ("again", c_uint64), ("status", c_uint32), ("reserved", c_uint32)]
+
+
+class VersionsMessage(ctypes.Structure):
+    _fields_ = [("bytes", c_uint8 * 204), ("length", c_uint32)]

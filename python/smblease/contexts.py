@@ -46,8 +46,7 @@ class CreateAsk:
         """
         given, found = octets(text), structs.CreateAsk()
         raise_fault(library.smblease_read_create_ask(given, len(given), ctypes.byref(found)))
-        return cls(key_of(found.key) if found.has_lease else None, LeaseState(found.state), bool(found.durable),
-                   int(found.file_id) if found.has_reconnect else None, bool(found.has_other_lease))
+        return ask_of(found)
 
     def write(self) -> bytes:
         """The text of the contexts that are asked for.
@@ -60,6 +59,12 @@ class CreateAsk:
 
 # It asks for nothing.
 NO_ASK = CreateAsk()
+
+
+def ask_of(found: structs.CreateAsk) -> CreateAsk:
+    """What a call found that is asked for."""
+    return CreateAsk(key_of(found.key) if found.has_lease else None, LeaseState(found.state), bool(found.durable),
+                     int(found.file_id) if found.has_reconnect else None, bool(found.has_other_lease))
 
 
 def ask_struct(ask: CreateAsk) -> structs.CreateAsk:

@@ -5,12 +5,13 @@ decisions, which the host carries out in their order, one after the other: inclu
 """
 from __future__ import annotations
 
+import contextlib
 import ctypes
 import uuid
-from typing import Any, Callable, Dict, Optional, Sequence, Tuple
+from typing import Any, Callable, Dict, Iterator, Optional, Sequence, Tuple
 
 from smblease import _structs as structs
-from smblease._arguments import LONG, are_longs, key_field, number
+from smblease._arguments import LONG, are_longs, key_field, longs, number
 from smblease._handles import Outcome
 from smblease._library import in_words, library
 from smblease._tags import WaitingTags
@@ -28,12 +29,6 @@ _decision_count, _read_decision = in_words("manager_decision_count"), in_words("
 _NOTHING_ASKED = ask_struct(NO_ASK)
 _REFUSED: Dict[int, str] = {Outcome.DAMAGED: "the bytes of kept opens are damaged",
                             Outcome.UNLAWFUL: "the kept opens would break a law of managers"}
-
-
-def _longs(values: Sequence[int], name: str) -> Any:
-    """Numbers of 64 bits as an array, or None of none."""
-    given = [number(value, LONG, name) for value in values]
-    return (ctypes.c_uint64 * len(given))(*given) if given else None
 
 
 class Manager(ManagerQuestions, ManagerListings):
@@ -113,6 +108,17 @@ class Manager(ManagerQuestions, ManagerListings):
         names = number(client, LONG, "client"), number(tag, LONG, "tag"), number(file_id, LONG, "file_id")
         return self._requested(call, *names, *more)
 
+    @contextlib.contextmanager
+    def used(self) -> Iterator[Any]:
+        """Its handle, for another function of the library, while no other thread calls it (own).
+
+        >>> with Manager(Rules.of("by-key,whole")).used() as handle:
+        ...     handle is not None
+        True
+        """
+        with self._lock:
+            yield self._reference
+
     def join(self, client: int) -> None:
         """A client connects (3.3.5.1), which decides nothing.
 
@@ -143,8 +149,8 @@ class Manager(ManagerQuestions, ManagerListings):
         >>> manager.leave(1, [opened.file_id])
         (Ended(file_id=1),)
         """
-        arguments = (self._reference, number(client, LONG, "client"), _longs(file_ids, "file_id"), len(file_ids),
-                     _longs(tags, "tag"), len(tags))
+        arguments = (self._reference, number(client, LONG, "client"), longs(file_ids, "file_id"), len(file_ids),
+                     longs(tags, "tag"), len(tags))
         with self._lock:
             decided = self._decisions(library.smblease_manager_leave, arguments)
             self._tags.leave(client, tags)

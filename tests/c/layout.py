@@ -19,7 +19,7 @@ SIZES = {"u8": 1, "u16": 2, "u32": 4, "u64": 8, "usize": 8, "*mut u8": 8}
 # The structs of the handles. Some are declared in several crates, and have to be the same there.
 NAMES = {
     "ClientHandle": "smblease_client", "ServerHandle": "smblease_server", "FilesHandle": "smblease_files",
-    "ManagerHandle": "smblease_manager",
+    "ManagerHandle": "smblease_manager", "VersionsHandle": "smblease_versions",
     "ClientGuid": "smblease_guid", "KeyBytes": "smblease_key", "MaybeKey": "smblease_maybe_key",
     "BreakMessage": "smblease_break_message", "AckMessage": "smblease_ack_message",
     "ClientOpen": "smblease_open_terms", "ClientAnswer": "smblease_answer", "ClientRequest": "smblease_client_request",
@@ -54,8 +54,15 @@ def name_in_c(comment: str, name: str) -> str:
     return found
 
 
-def fields(name: str, body: str) -> list[Field]:
-    """The fields of a declaration. Ghost ones are for proofs, and take no room."""
+def as_field(name: str, within: list[Field]) -> Field:
+    """A struct that is a field of another one: so many of its widest element."""
+    size = places(within)[1]
+    widest = max(it.element for it in within)
+    return Field(name, widest, size // widest)
+
+
+def fields(name: str, body: str, known: dict[str, list[Field]]) -> list[Field]:
+    """The fields of a declaration, some of which may be structs that are known. Ghost ones are for proofs, and take no room."""
     found = []
     for line in map(str.strip, body.splitlines()):
         if not line or line.startswith("//") or "ghost " in line:
@@ -63,14 +70,18 @@ def fields(name: str, body: str) -> list[Field]:
         field = FIELD.fullmatch(line)
         if not field:
             raise ValueError(f"a field of {name} can't be read: {line}")
+        if field[4] in known:
+            found.append(as_field(field[1], known[field[4]]))
+            continue
         found.append(Field(FIELDS.get(field[1], field[1]), SIZES[field[2] or field[4]], int(field[3] or 1)))
     return found
 
 
 def structs() -> dict[str, list[Field]]:
     found: dict[str, list[Field]] = {}
+    known: dict[str, list[Field]] = {}
     for comment, name, body in (declared for text in sources() for declared in DECLARED.findall(text)):
-        has = fields(name, body)
+        has = known[name] = fields(name, body, known)
         if found.setdefault(name_in_c(comment, name), has) != has:
             raise ValueError(f"{name} isn't declared as another struct of this name in C")
     return found

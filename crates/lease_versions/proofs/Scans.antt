@@ -12,12 +12,13 @@ use Rattle.std.proofs.lemmas.Map.Entries.{lookup-filter-keys}
 use Rattle.lease_manager.specs.Parting.{tag_numbers}
 use Rattle.lease_manager.specs.declared.values.number.Tag.{Tag}
 use Rattle.lease_versions.specs.Asking.{without_client, without_tags}
-use Rattle.lease_versions.specs.Kept.{asked_of, open_of, opens_of, requests_of, tag_order}
+use Rattle.lease_versions.specs.Kept.{asked_of, open_of, opens_of, request_name, requests_of, tag_order}
 use Rattle.lease_versions.specs.Layer.{Asked, put_asked}
 use Rattle.lease_versions.specs.Refusals.{is_create_under, is_open_under}
 use Rattle.lease_versions.specs.declared.opens.Open as code_open
 use Rattle.lease_versions.specs.declared.opens.Opens.{Opens}
 use Rattle.lease_versions.specs.declared.requests.Asked as code_asked
+use Rattle.lease_versions.specs.declared.requests.RequestName.{RequestName}
 use Rattle.lease_versions.specs.declared.requests.Requests.{Requests}
 
 -- a test that no key passes, no key that is found passes
@@ -27,8 +28,8 @@ none_at test [] n none found = absurd (cc found)
 none_at test (e ∷ es) n none found =
     let rest = none_at test es n in grind (arith, nat_tests, rest, none, found)
 
-none_at_tag : {X : Type 0} (test : ℕ × ℕ → Bool) (es : List ((ℕ × ℕ) × X)) (c t : ℕ) → list_any test (keys_of es) ≡ false
-    → is_some (lookup (is_at (tag_order (c, t))) es) ≡ true → test (c, t) ≡ false
+none_at_tag : {X : Type 0} (test : RequestName → Bool) (es : List (RequestName × X)) (c t : ℕ) → list_any test (keys_of es) ≡ false
+    → is_some (lookup (is_at (tag_order (request_name c t))) es) ≡ true → test (request_name c t) ≡ false
 none_at_tag test [] c t none found = absurd (cc found)
 none_at_tag test (e ∷ es) c t none found =
     let rest = none_at_tag test es c t in grind (arith, nat_tests, rest, none, found)
@@ -52,8 +53,8 @@ none_open client guid opens file_id none = either (is_some (get nat_cmp opens.by
 
 -- ---- requests
 
-abbrev pub create_test : ℕ → List ℕ → Requests → ℕ × ℕ → Bool
-create_test client guid requests under = under.0 == client && is_create_under guid (requests_of requests client under.1)
+abbrev pub create_test : ℕ → List ℕ → Requests → RequestName → Bool
+create_test client guid requests under = under.client == client && is_create_under guid (requests_of requests client under.tag)
 
 not_create : (guid : List ℕ) (found : Option code_asked.Asked) → is_some found ≡ false
     → is_create_under guid (option_map asked_of found) ≡ false
@@ -66,29 +67,29 @@ own_test client passes e = grind (arith, nat_tests, e)
 pub none_asked : (client : ℕ) (guid : List ℕ) (requests : Requests) (tag : ℕ)
     → list_any (create_test client guid requests) (keys requests.by_tag) ≡ false
     → is_create_under guid (requests_of requests client tag) ≡ false
-none_asked client guid requests tag none = either (is_some (get tag_order requests.by_tag (client, tag)))
+none_asked client guid requests tag none = either (is_some (get tag_order requests.by_tag (request_name client tag)))
     (λ e. own_test client (is_create_under guid (requests_of requests client tag))
     (none_at_tag (create_test client guid requests) requests.by_tag.entries client tag none e))
-    (λ e. not_create guid (get tag_order requests.by_tag (client, tag)) e)
+    (λ e. not_create guid (get tag_order requests.by_tag (request_name client tag)) e)
 
 by_not : {X Y : Type 0} (f : X → Y) (b : Bool) (found : Option X)
     → option_map f (cond (not b) found None) ≡ (if b then None else option_map f found)
 by_not f true found = refl
 by_not f false found = refl
 
-at_client : (client c t : ℕ) (under : ℕ × ℕ) → is_at (tag_order (c, t)) under ≡ true
-    → not (under.0 == client) ≡ not (c == client)
+at_client : (client c t : ℕ) (under : RequestName) → is_at (tag_order (request_name c t)) under ≡ true
+    → not (under.client == client) ≡ not (c == client)
 at_client client c t under at = grind (arith, nat_tests, at)
 
 pub client_gone : (before after : Requests) (client : ℕ)
-    → after.by_tag.entries ≡ filter (λ e. not (e.0.0 == client)) before.by_tag.entries
+    → after.by_tag.entries ≡ filter (λ e. not (e.0.client == client)) before.by_tag.entries
     → requests_of after ≡ without_client client (requests_of before)
 unfolding without_client
 client_gone before after client is = fun_ext (λ c. fun_ext (λ t.
-    ap (λ es. option_map asked_of (lookup (is_at (tag_order (c, t))) es)) is
-    ∙ (ap (option_map asked_of) (lookup-filter-keys (is_at (tag_order (c, t))) (λ k. not (k.0 == client)) (not (c == client))
+    ap (λ es. option_map asked_of (lookup (is_at (tag_order (request_name c t))) es)) is
+    ∙ (ap (option_map asked_of) (lookup-filter-keys (is_at (tag_order (request_name c t))) (λ k. not (k.client == client)) (not (c == client))
     (at_client client c t) before.by_tag.entries)
-    ∙ by_not asked_of (c == client) (get tag_order before.by_tag (c, t)))))
+    ∙ by_not asked_of (c == client) (get tag_order before.by_tag (request_name c t)))))
 
 pub no_tags : (client : ℕ) (asked : ℕ → ℕ → Option Asked) → without_tags client [] asked ≡ asked
 unfolding without_tags

@@ -7,7 +7,8 @@ use Rattle.lease_laws.proofs.server.Keys.{key_eq-same}
 use Rattle.lease_laws.proofs.server.Lists.{either}
 use Rattle.lease_manager.proofs.sums.Ordering.{order_eq-back}
 use Rattle.lease_manager.specs.KeyOrder.{key_order}
-use Rattle.lease_versions.specs.Kept.{asked_of, layer_of, lease_of, leases_of, open_of, opens_of, requests_of, tag_order}
+use Rattle.lease_versions.specs.Kept.{asked_of, layer_of, lease_of, leases_of, open_of, opens_of}
+use Rattle.lease_versions.specs.Kept.{request_name, requests_of, tag_order}
 use Rattle.lease_versions.specs.Layer.{Asked, Layer, Lease, Open, nothing_known, put_asked}
 use Rattle.lease_versions.specs.Rows.{noted, with_lease}
 use Rattle.lease_versions.specs.declared.versions.Versions.{Versions}
@@ -40,16 +41,16 @@ unfolding put
 opens_put before after file_id value updates = fun_ext (λ other. ap (option_map open_of) (updates.0 other)
     ∙ rw (at_number file_id other) (by_cond open_of (other == file_id) value (get nat_cmp before.by_number other)))
 
-at_tag : (client tag c t : ℕ) → is_at (tag_order (client, tag)) (c, t) ≡ (c == client && t == tag)
+at_tag : (client tag c t : ℕ) → is_at (tag_order (request_name client tag)) (request_name c t) ≡ (c == client && t == tag)
 at_tag client tag c t = grind (arith, nat_tests)
 
 pub requests_put : (before after : Requests) (client tag : ℕ) (value : Option code_asked.Asked)
-    → Updates tag_order before.by_tag after.by_tag (client, tag) value
+    → Updates tag_order before.by_tag after.by_tag (request_name client tag) value
     → requests_of after ≡ put_asked (requests_of before) client tag (option_map asked_of value)
 unfolding put_asked
 requests_put before after client tag value updates = fun_ext (λ c. fun_ext (λ t.
-    ap (option_map asked_of) (updates.0 (c, t)) ∙ rw (at_tag client tag c t)
-    (by_cond asked_of (c == client && t == tag) value (get tag_order before.by_tag (c, t)))))
+    ap (option_map asked_of) (updates.0 (request_name c t)) ∙ rw (at_tag client tag c t)
+    (by_cond asked_of (c == client && t == tag) value (get tag_order before.by_tag (request_name c t)))))
 
 -- what is put where it stands changes nothing
 pub put_same : {X : Type 0} (table : ℕ → Option X) (n : ℕ) → put table n (table n) ≡ table

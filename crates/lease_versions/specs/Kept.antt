@@ -19,6 +19,7 @@ use Rattle.lease_versions.specs.declared.opens.Open as one
 use Rattle.lease_versions.specs.declared.opens.Opens.{Opens}
 use Rattle.lease_versions.specs.declared.requests.Asked as asked
 use Rattle.lease_versions.specs.declared.requests.AskedCreate as create
+use Rattle.lease_versions.specs.declared.requests.RequestName.{RequestName}
 use Rattle.lease_versions.specs.declared.requests.Requests.{Requests}
 use Rattle.lease_versions.specs.declared.versions.Versions.{Versions}
 
@@ -54,11 +55,14 @@ open_of kept = record {
   guid = option_map guid_of kept.guid;
 }
 
-abbrev pub tag_order : ℕ × ℕ → ℕ × ℕ → Ordering
-tag_order one other = ordering_then (nat_cmp one.0 other.0) (nat_cmp one.1 other.1)
+abbrev pub request_name : ℕ → ℕ → RequestName
+request_name client tag = record { client = client; tag = tag }
+
+abbrev pub tag_order : RequestName → RequestName → Ordering
+tag_order one other = ordering_then (nat_cmp one.client other.client) (nat_cmp one.tag other.tag)
 
 abbrev pub requests_of : Requests → ℕ → ℕ → Option layer.Asked
-requests_of requests client tag = option_map asked_of (get tag_order requests.by_tag (client, tag))
+requests_of requests client tag = option_map asked_of (get tag_order requests.by_tag (request_name client tag))
 
 abbrev pub leases_of : Leases → Key → Option layer.Lease
 leases_of leases key = option_map lease_of (get key_order leases.by_name key)

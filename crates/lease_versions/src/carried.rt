@@ -1,4 +1,4 @@
-use lease_state::FileId;
+use lease_state::{FileId, Status};
 use lease_wire_v2::SecondVersion;
 
 /// What version 2 adds to what a host sends for a decision.
@@ -27,4 +27,15 @@ pub enum Replayed {
     DuplicateObjectId,
     /// The create is refused while the first one waits: STATUS_FILE_NOT_AVAILABLE, 0xC0000467.
     FileNotAvailable,
+}
+
+/// What becomes of a create by its contexts, before the manager is asked.
+#[derive(Clone, Copy, Debug, PartialEq, Eq)]
+pub enum Arrival {
+    /// The manager is to be asked, and it is noted what for.
+    Asked,
+    /// It is refused with this status.
+    Refused(Status),
+    /// Its client has used its CreateGuid.
+    Again(Replayed),
 }

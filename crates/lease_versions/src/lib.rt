@@ -6,11 +6,11 @@
 //!
 //! ```
 //! let mut versions = Versions::new(alloc);
-//! if let Some(status) = versions.reconnect_refusal(file_id, create_guid) {
-//!     return host.refuse(tag, status);
+//! match versions.arrived(client, tag, &ask, replay)? {
+//!     Arrival::Asked => manager.ask(client, tag, create, &mut decisions)?,
+//!     Arrival::Refused(status) => return host.refuse(tag, status),
+//!     Arrival::Again(replayed) => return host.answer_again(tag, replayed),
 //! }
-//! versions.asked(client, tag, &ask)?;
-//! manager.ask(client, tag, create, &mut decisions)?;
 //! for decision in decisions.iter() {
 //!     let carried = versions.follow(decision)?;
 //!     host.carry_out(decision, carried)?;
@@ -30,10 +30,11 @@ mod laws;
 mod leases;
 mod opens;
 mod requests;
+mod sent;
 #[cfg(test)]
 mod tests;
 mod versions;
 
-pub use carried::{Carried, Replayed};
+pub use carried::{Arrival, Carried, Replayed};
 pub use laws::version_laws;
 pub use versions::Versions;

@@ -2,7 +2,7 @@ ghost use Rattle.std.specs.Prelude.{◌≡◌, ℕ, true, false, OnErr, OnOk, So
 ghost use Rattle.std.specs.Option.{option_map};
 ghost use Rattle.lease_manager.specs.Parting.{tag_numbers};
 ghost use Rattle.lease_versions.specs.Asking.{create_asked, durable_guid, reconnect_guid, without_client, without_tags};
-ghost use Rattle.lease_versions.specs.Kept.{asked_of, create_of, guid_of, requests_of};
+ghost use Rattle.lease_versions.specs.Kept.{asked_of, create_of, guid_of, request_name, requests_of};
 ghost use Rattle.lease_versions.specs.Layer.{put_asked};
 ghost use Rattle.lease_versions.specs.Refusals.{is_create_under};
 ghost use Rattle.lease_versions.specs.Rows.{create_in, plain_create};
@@ -24,6 +24,22 @@ pub struct AskedCreate {
     pub guid: Option<Guid>,
     /// It connects an open again.
     pub reconnects: bool,
+}
+
+/// What names a request: its client, and the tag under which it was asked.
+#[derive(Clone, Copy, Debug, PartialEq, Eq, PartialOrd, Ord)]
+pub struct RequestName {
+    pub client: u64,
+    pub tag: u64,
+}
+
+fn named(client: ClientNo, tag: Tag) -> RequestName
+    ensures { result ≡ request_name client.0 tag.0 }
+{
+    RequestName {
+        client: client.0,
+        tag: tag.0,
+    }
 }
 
 /// A request that isn't answered.
@@ -86,7 +102,7 @@ impl AskedCreate {
 /// The requests that aren't answered, by their clients and tags.
 #[derive(Debug, Drop)]
 pub struct Requests {
-    by_tag: BTreeMap<(u64, u64), Asked>,
+    by_tag: BTreeMap<RequestName, Asked>,
 }
 
 impl Requests {
@@ -103,7 +119,7 @@ impl Requests {
     pub fn asked(&self, client: ClientNo, tag: Tag) -> Option<Asked>
         ensures { option_map asked_of result ≡ requests_of self.now client.0 tag.0 }
     {
-        self.by_tag.get(&(client.0, tag.0)).copied()
+        self.by_tag.get(&named(client, tag)).copied()
     }
 
     /// The create that was asked under the tag.
@@ -126,7 +142,7 @@ impl Requests {
             ≡ put_asked (requests_of self.old) client.0 tag.0 (Some (asked_of asked))) }
         ensures refused { OnErr result (requests_of self.new ≡ requests_of self.old) }
     {
-        self.by_tag.insert((client.0, tag.0), asked)?;
+        self.by_tag.insert(named(client, tag), asked)?;
         Ok(())
     }
 
@@ -134,14 +150,14 @@ impl Requests {
     pub fn forget(&mut self, client: ClientNo, tag: Tag)
         ensures { requests_of self.new ≡ put_asked (requests_of self.old) client.0 tag.0 None }
     {
-        self.by_tag.remove(&(client.0, tag.0));
+        self.by_tag.remove(&named(client, tag));
     }
 
     /// What the client asked is forgotten.
     pub fn forget_all(&mut self, client: ClientNo)
         ensures { requests_of self.new ≡ without_client client.0 (requests_of self.old) }
     {
-        self.by_tag.retain(|under, _| under.0 != client.0);
+        self.by_tag.retain(|under, _| under.client != client.0);
     }
 
     /// What the client asked under these tags is forgotten.
@@ -169,7 +185,7 @@ impl Requests {
         ensures none { result ≡ false → (tag : ℕ) → is_create_under guid.0 (requests_of self.now client.0 tag) ≡ false }
     {
         for under in self.by_tag.keys() {
-            if under.0 == client.0 && self.is_create_under(client, Tag(under.1), guid) {
+            if under.client == client.0 && self.is_create_under(client, Tag(under.tag), guid) {
                 return true;
             }
         }

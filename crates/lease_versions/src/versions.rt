@@ -4,21 +4,22 @@ ghost use Rattle.lease_manager.specs.Outs.{answer_told, decision_of, notice_of};
 ghost use Rattle.lease_manager.specs.Parting.{tag_numbers};
 ghost use Rattle.lease_model.specs.values.Tables.{put};
 ghost use Rattle.lease_state.specs.State.{state_of};
-ghost use Rattle.lease_versions.specs.Asking.{all_forgotten, create_asked, tags_forgotten, with_asked};
+ghost use Rattle.lease_versions.specs.Arriving.{HasArrived, IsFoundOf, refusal_in};
+ghost use Rattle.lease_versions.specs.Asking.{all_forgotten, create_asked, durable_guid, tags_forgotten, with_asked};
 ghost use Rattle.lease_versions.specs.Kept.{carried_of, create_of, layer_of, leases_of, open_of, opens_of};
 ghost use Rattle.lease_versions.specs.Layer as layer;
 ghost use Rattle.lease_versions.specs.Refusals.{HasCreate, HasNoCreate, HasNoOpen, HasOpen, IsAgain, reconnect_refusal};
 ghost use Rattle.lease_versions.specs.Rows as rows;
-ghost use Rattle.lease_wire_v2.specs.Views.{ask_of, second_of};
+ghost use Rattle.lease_wire_v2.specs.Views.{ask_of, asked_durable, reconnect_view, second_of};
 
-use crate::carried::{Carried, Replayed};
+use crate::carried::{Arrival, Carried, Replayed};
 use crate::leases::Leases;
 use crate::opens::{Open, Opens};
 use crate::requests::{Asked, AskedCreate, Requests};
 use capture_wire::Guid;
 use lease_manager::{BreakNotice, ClientNo, CreateAnswer, Decision, LeaseName, Tag};
 use lease_state::{FileId, LeaseKey, LeaseState, Memory, Status};
-use lease_wire_v2::{CreateAskV2, SecondVersion};
+use lease_wire_v2::{CreateAskV2, DurableAsk, Reconnect, SecondVersion};
 use std::alloc::Global;
 
 /// What a server knows of leases and durable opens of version 2, apart from what its lease manager knows.
@@ -188,6 +189,56 @@ impl Versions {
             ),
             None => None,
         }
+    }
+
+    // The status by which its `DH2C` is refused.
+    fn refusal(&self, reconnect: Option<Reconnect>) -> Option<Status>
+        ensures { result ≡ refusal_in (option_map reconnect_view reconnect) (layer_of self.now) }
+    {
+        match reconnect {
+            Some(Reconnect::Second(again)) => self.reconnect_refusal(
+                FileId(again.file_id.persistent),
+                again.create_guid,
+            ),
+            _ => None,
+        }
+    }
+
+    // What became of the CreateGuid of its `DH2Q`.
+    fn found(&self, client: ClientNo, durable: Option<DurableAsk>, replay: bool) -> Option<Replayed>
+        ensures { IsFoundOf client.0 (durable_guid (option_map asked_durable durable)) replay (layer_of self.now) result }
+    {
+        match durable {
+            Some(DurableAsk::Second(ask)) => self.replayed(client, ask.create_guid, replay),
+            _ => None,
+        }
+    }
+
+    /// What becomes of a create by its contexts, where its request has SMB2_FLAGS_REPLAY_OPERATION or hasn't: as `reconnect_refusal`
+    /// and `replayed` say, and else it is `asked`.
+    ///
+    /// # Errors
+    ///
+    /// `Memory` where there is none left; nothing has changed then.
+    pub fn arrived(
+        &mut self,
+        client: ClientNo,
+        tag: Tag,
+        ask: &CreateAskV2,
+        replay: bool,
+    ) -> Result<Arrival, Memory>
+        ensures arrived { IfOk result
+            (λ arrival. HasArrived client.0 tag.0 (ask_of ask.now) replay (layer_of self.old) (layer_of self.new) arrival) }
+        ensures refused { OnErr result (layer_of self.new ≡ layer_of self.old) }
+    {
+        if let Some(status) = self.refusal(ask.reconnect) {
+            return Ok(Arrival::Refused(status));
+        }
+        if let Some(found) = self.found(client, ask.durable, replay) {
+            return Ok(Arrival::Again(found));
+        }
+        self.asked(client, tag, ask)?;
+        Ok(Arrival::Asked)
     }
 
     // A create is answered.

@@ -8,3 +8,4 @@ pub mod LooseValues
 pub mod ManagerHandles
 pub mod ServerHandles
 pub mod Tries
+pub mod VersionsHandles

@@ -3,3 +3,4 @@ pub mod client
 pub mod handles
 pub mod manager
 pub mod server
+pub mod versions

@@ -2,6 +2,7 @@ use crate::client::handle::ClientHandle;
 use crate::manager::handle::ManagerHandle;
 use crate::server::files::FilesHandle;
 use crate::server::handle::ServerHandle;
+use crate::versions::handle::VersionsHandle;
 
 // Whatever may go to another thread.
 fn sent<T: Send>(value: T) -> T {
@@ -25,5 +26,10 @@ pub fn sent_files(handle: FilesHandle) -> FilesHandle {
 
 /// The same handle. It is proved here that it may go to another thread.
 pub fn sent_manager(handle: ManagerHandle) -> ManagerHandle {
+    sent(handle)
+}
+
+/// The same handle. It is proved here that it may go to another thread.
+pub fn sent_versions(handle: VersionsHandle) -> VersionsHandle {
     sent(handle)
 }

@@ -7,7 +7,7 @@ use leasecheck::proved::capture_walk::{
     BreakNote, CreateAsked, CreateGiven, Index, KeyLevel, LeaseGiven, Note, OpenName, Seen, TreeAsked, TreeGiven, Walk,
     chains_on,
 };
-use leasecheck::proved::capture_wire::{Guid, Smb2FileId};
+use smblease::proved::capture_wire::{Guid, Smb2FileId};
 use smblease::proved::lease_state::{LeaseKey, LeaseState, Memory};
 use std::alloc::Global;
 

@@ -36,12 +36,9 @@
 pub mod capture_judge;
 pub mod capture_texts;
 pub mod capture_walk;
-pub mod capture_wire;
 pub mod lease_lines;
 pub mod lease_reasons;
 pub mod lease_texts;
-pub mod lease_versions;
-pub mod lease_wire_v2;
 pub mod leasecheck;
 pub mod record_words;
 pub mod text_laws;

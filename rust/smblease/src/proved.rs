@@ -34,12 +34,15 @@
 )]
 
 pub mod break_timers;
+pub mod capture_wire;
 pub mod kept_opens;
 pub mod lease_client;
 pub mod lease_facts;
 pub mod lease_manager;
 pub mod lease_state;
+pub mod lease_versions;
 pub mod lease_wire;
+pub mod lease_wire_v2;
 pub mod lease_world;
 pub mod share_server;
 pub mod waiting_changes;

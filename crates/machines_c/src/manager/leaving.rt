@@ -68,7 +68,7 @@ fn file_ids_of(alloc: Global, given: &[u64]) -> Result<Vec<FileId>, Memory>
     Ok(ids)
 }
 
-fn tags_of(alloc: Global, given: &[u64]) -> Result<Vec<Tag>, Memory>
+pub(crate) fn tags_of(alloc: Global, given: &[u64]) -> Result<Vec<Tag>, Memory>
     ensures { IfOk result (λ tags. tag_numbers tags.items ≡ given.now) }
 {
     let mut tags = Vec::new(alloc);

@@ -1,14 +1,15 @@
 // Made by tools/plain_rust from crates/machines_c/src/lib.rt. Changes belong there.
 
-//! The client machine, the server machine and the manager of leases for callers in C: `include/smblease_machines.h`
-//! and `include/smblease_manager.h` declare each function and struct of this crate, and say what a caller has to keep
-//! to. A handle is a struct of one pointer, null where it holds nothing. No function has a condition beyond those of
-//! its types.
+//! The client machine, the server machine and the manager of leases for callers in C, and what leases of version 2
+//! carry: `include/smblease_machines.h`, `smblease_manager.h` and `smblease_versions.h` declare each function and
+//! struct of this crate, and say what a caller has to keep to. A handle is a struct of one pointer, null where it
+//! holds nothing. No function has a condition beyond those of its types.
 mod client;
 mod handles;
 mod manager;
 mod server;
 mod values;
+mod versions;
 
 pub use client::answer::ClientAnswer;
 pub use client::commands::ClientOpen;
@@ -26,3 +27,7 @@ pub use server::files::{Files, FilesHandle};
 pub use server::handle::{Hosted, ServerHandle};
 pub use server::out::ServerOut;
 pub use values::{AckMessage, KeyBytes, MaybeKey};
+pub use versions::creates::AskedFields;
+pub use versions::following::Following;
+pub use versions::handle::VersionsHandle;
+pub use versions::messages::MessageFields;

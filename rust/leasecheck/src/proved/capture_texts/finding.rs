@@ -5,7 +5,7 @@ use std::prelude::Vec;
 use crate::proved::capture_judge::Level;
 use crate::proved::capture_texts::line::Moment;
 use crate::proved::capture_walk::NotJudged;
-use crate::proved::capture_wire::Guid;
+use smblease::proved::capture_wire::Guid;
 use smblease::proved::lease_state::{Bytes, LeaseKey, LeaseState};
 
 /// Where a file is.

@@ -3,7 +3,7 @@
 use std::prelude::Vec;
 
 use crate::proved::capture_texts::line::Said;
-use crate::proved::capture_wire::{Command, Header, read_header};
+use smblease::proved::capture_wire::{Command, Header, read_header};
 use smblease::proved::lease_state::Memory;
 use smblease::proved::lease_wire::first_message;
 use std::alloc::{AllocError, Global};

@@ -9,8 +9,8 @@ use crate::proved::capture_texts::finding::{
 use crate::proved::capture_texts::line::Moment;
 use crate::proved::capture_texts::names::{MessageName, MessagePart};
 use crate::proved::capture_walk::NotJudged;
-use crate::proved::capture_wire::{Command, Guid};
 use crate::proved::lease_texts::{push_all_escaped, state_letters};
+use smblease::proved::capture_wire::{Command, Guid};
 use smblease::proved::lease_state::{Bytes, LeaseKey};
 use std::alloc::{AllocError, Global};
 use std::fmt;

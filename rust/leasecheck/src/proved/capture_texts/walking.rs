@@ -1,7 +1,7 @@
 // Made by tools/plain_rust from crates/capture_texts/src/walking.rt. Changes belong there.
 
 use crate::proved::capture_walk::{Frame, FrameFault, Note, Walk, read_frame};
-use crate::proved::capture_wire::Message;
+use smblease::proved::capture_wire::Message;
 use smblease::proved::lease_state::Memory;
 use std::alloc::Global;
 

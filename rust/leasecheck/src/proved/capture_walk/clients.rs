@@ -1,7 +1,7 @@
 // Made by tools/plain_rust from crates/capture_walk/src/clients.rt. Changes belong there.
 
 use crate::proved::capture_walk::note::Seen;
-use crate::proved::capture_wire::Guid;
+use smblease::proved::capture_wire::Guid;
 use smblease::proved::lease_state::Memory;
 use std::alloc::Global;
 use std::collections::BTreeMap;

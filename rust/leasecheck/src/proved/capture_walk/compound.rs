@@ -2,8 +2,8 @@
 
 use std::prelude::Vec;
 
-use crate::proved::capture_wire::{Message, Unreadable, read_message};
 use byteorder::{ByteOrder, LittleEndian};
+use smblease::proved::capture_wire::{Message, Unreadable, read_message};
 use smblease::proved::lease_state::Memory;
 use smblease::proved::lease_wire::{WireFault, first_message};
 use std::alloc::Global;

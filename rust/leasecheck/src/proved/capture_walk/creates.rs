@@ -3,7 +3,7 @@
 use std::prelude::Vec;
 
 use crate::proved::capture_walk::note::Seen;
-use crate::proved::capture_wire::Guid;
+use smblease::proved::capture_wire::Guid;
 use smblease::proved::lease_state::{Bytes, LeaseKey, Memory};
 use std::alloc::Global;
 

@@ -3,7 +3,7 @@
 use crate::proved::capture_walk::note::{Note, Seen};
 use crate::proved::capture_walk::reading::{closed_behind, ids_of, note_of};
 use crate::proved::capture_walk::walk::Walk;
-use crate::proved::capture_wire::Message;
+use smblease::proved::capture_wire::Message;
 use smblease::proved::lease_state::Memory;
 
 /// Where a capture has messages that were sent as one.

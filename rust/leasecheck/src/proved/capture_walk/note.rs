@@ -1,7 +1,7 @@
 // Made by tools/plain_rust from crates/capture_walk/src/note.rt. Changes belong there.
 
 use crate::proved::capture_judge::Level;
-use crate::proved::capture_wire::{FileOnDisk, Guid, Smb2FileId};
+use smblease::proved::capture_wire::{FileOnDisk, Guid, Smb2FileId};
 use smblease::proved::lease_state::{LeaseKey, LeaseState};
 
 /// A TREE_CONNECT request.

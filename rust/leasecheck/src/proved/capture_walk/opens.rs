@@ -6,7 +6,7 @@ use crate::proved::capture_walk::event::Lease;
 use crate::proved::capture_walk::files::{Files, Identity, Naming, Place};
 use crate::proved::capture_walk::note::{CreateGiven, LeaseGiven, Note, Seen};
 use crate::proved::capture_walk::trees::Trees;
-use crate::proved::capture_wire::{Guid, Smb2FileId};
+use smblease::proved::capture_wire::{Guid, Smb2FileId};
 use smblease::proved::lease_state::{LeaseKey, Memory};
 
 /// An open of a file.

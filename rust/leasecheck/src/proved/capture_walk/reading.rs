@@ -4,7 +4,7 @@ use crate::proved::capture_judge::Level;
 use crate::proved::capture_walk::note::{
     BreakNote, CreateAsked, CreateGiven, KeyLevel, LeaseGiven, Note, OpenName, TreeAsked, TreeGiven, TreeName,
 };
-use crate::proved::capture_wire::{
+use smblease::proved::capture_wire::{
     Content, CreateContexts, CreateRequest, CreateResponse, Header, LeaseContext, Message, Request, Response, SetInfoRequest,
     Smb2FileId, TreeOrAsync,
 };

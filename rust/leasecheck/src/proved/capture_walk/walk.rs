@@ -13,7 +13,7 @@ use crate::proved::capture_walk::renames::Renames;
 use crate::proved::capture_walk::sides::Sides;
 use crate::proved::capture_walk::telling::{push_ended, push_heard, push_remade, push_told};
 use crate::proved::capture_walk::trees::Trees;
-use crate::proved::capture_wire::Guid;
+use smblease::proved::capture_wire::Guid;
 use smblease::proved::lease_state::Memory;
 use std::alloc::Global;
 

@@ -41,7 +41,7 @@ fn file_ids_of(alloc: Global, given: &[u64]) -> Result<Vec<FileId>, Memory> {
     Ok(ids)
 }
 
-fn tags_of(alloc: Global, given: &[u64]) -> Result<Vec<Tag>, Memory> {
+pub(crate) fn tags_of(alloc: Global, given: &[u64]) -> Result<Vec<Tag>, Memory> {
     let mut tags = Vec::new(alloc);
     for number in given {
         tags.push(Tag(*number))?;

@@ -1,0 +1,11 @@
+// Made by tools/plain_rust from crates/machines_c/src/versions.rt. Changes belong there.
+
+//! What leases and durable opens of version 2 carry, by `lease_versions`. A handle holds what is known of them; it follows the
+//! decisions of a manager that another handle holds.
+
+pub mod creates;
+pub mod following;
+pub mod handle;
+pub mod messages;
+pub mod requests;
+pub mod setting_up;
