@@ -24,9 +24,9 @@ __all__ = [
     "Access", "AcknowledgeDone", "AcknowledgeFailed", "AcknowledgeRequest", "Acknowledgment", "Answer", "Believes", "Break",
     "CachedRead", "Change", "Changed", "Client", "CloseFailed", "CloseRequest", "Closed", "Context", "CreateAnswer", "CreateAsk",
     "CreateFailed", "CreateRequest", "Created", "Done", "Extent", "Failed", "Fault", "FileBytes", "HeldLease", "KeptFault",
-    "LeaseState", "ListedLease", "ListedOpen", "ListedRequest", "MachineLost", "Manager", "MessageKind", "Note",
-    "Notification", "Opened", "Order", "Out", "Quiet", "ReadDone", "ReadFailed", "ReadRequest", "Refusal", "Refused",
-    "Reply", "Request", "Response", "Rise", "Rules", "Sent", "Server", "Settled", "Settlement", "Share", "Status", "Step",
-    "Versions", "VersionsAsk", "Waiting", "WaitingKind", "WriteDone", "WriteFailed", "WriteRequest", "Wrote", "append_context", "each_context",
+    "LeaseState", "ListedLease", "ListedOpen", "ListedRequest", "MachineLost", "Manager", "MessageKind", "Note", "Notification",
+    "Opened", "Order", "Out", "Quiet", "ReadDone", "ReadFailed", "ReadRequest", "Refusal", "Refused", "Reply", "Request",
+    "Response", "Rise", "Rules", "Sent", "Server", "Settled", "Settlement", "Share", "Status", "Step", "Versions", "VersionsAsk",
+    "Waiting", "WaitingKind", "WriteDone", "WriteFailed", "WriteRequest", "Wrote", "append_context", "each_context",
     "find_context", "granted_form", "is_within", "lease_key", "needs_acknowledgment", "opens_conflict", "replace_data",
 ]

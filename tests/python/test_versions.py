@@ -47,7 +47,7 @@ class Play:
                 raise Difference(f"{decision}: {sent.hex()}")
             if isinstance(decision, Opened):
                 self.opens[decision.file_id] = decision.client
-            elif isinstance(decision, Breaks) and decision.notification.ack_required:
+            elif isinstance(decision, Breaks) and decision.timer is not None:
                 self.breaks.append((decision.client, decision.notification.key, decision.notification.new))
                 self.timers.append(decision.timer)
             elif not isinstance(decision, Waits) and getattr(decision, "tag", None) in self.waiting:
@@ -175,8 +175,8 @@ def expected(decision: object, carried: Optional[Carried]) -> Callable[[bytes], 
         return lambda sent: layout.links(sent) == contexts
     if isinstance(decision, Breaks):
         assert carried is not None
-        text = decision.notification.write()
-        return lambda sent: layout.new_epoch(sent) == (carried.epoch or 0) and sent[:2] + sent[4:] == text[:2] + text[4:]
+        text, epoch = decision.notification.write(), carried.epoch or 0
+        return lambda sent: layout.new_epoch(sent) == epoch and sent[:2] + sent[4:] == text[:2] + text[4:]
     return lambda sent: not sent
 
 
@@ -265,7 +265,8 @@ def test_numbers_that_stand_for_nothing() -> None:
     with pytest.raises(ValueError, match="is closed"):
         versions.follow(0)
     versions.close()
-    for call in (lambda: versions.asked(1, 1, b""), lambda: versions.closing(1, 1, 1), lambda: versions.forget(1),
-                 lambda: versions.leave(1, [1])):
+    calls: list[Callable[[], object]] = [lambda: versions.asked(1, 1, b""), lambda: versions.closing(1, 1, 1),
+                                         lambda: versions.forget(1), lambda: versions.leave(1, [1])]
+    for call in calls:
         with pytest.raises(ValueError, match="is closed"):
             call()

@@ -1,4 +1,4 @@
-"""Create contexts of version 2 and notifications with NewEpoch, written and read by the layouts of MS-SMB2, apart from the library."""
+"""Create contexts of version 2 and notifications with NewEpoch, by the layouts of MS-SMB2 and without the library."""
 from __future__ import annotations
 
 import struct

@@ -1,4 +1,4 @@
-"""What leases and durable opens of version 2 carry, as a plain model of include/smblease_versions.h, written apart from the library."""
+"""What leases and durable opens of version 2 carry: a plain model of include/smblease_versions.h, without the library."""
 from __future__ import annotations
 
 from dataclasses import dataclass, field

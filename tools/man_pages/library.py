@@ -37,6 +37,9 @@ FAMILIES = {
     "smblease_manager_connected": "what is true of a manager's leases and opens",
     "smblease_manager_lease": "the lease that a manager has of a key",
     "smblease_manager_list_opens": "list the opens of a manager",
+    "smblease_versions_new": "make and free what is known of leases of version 2",
+    "smblease_versions_asked": "tell what clients ask of a manager, for leases of version 2",
+    "smblease_versions_follow": "what is sent for a manager's decision, for leases of version 2",
 }
 # The comment on what is common to the structs of a header.
 COMMON = "/* In the structs below"

@@ -1,7 +1,7 @@
 //! What the messages of a capture say, by bytes that are laid out by hand as MS-SMB2 has them.
 
 use crate::wire::KEY;
-use leasecheck::proved::capture_wire::{
+use smblease::proved::capture_wire::{
     DurableReconnectV2, DurableRequestV2, DurableResponseV2, Guid, Header, LeaseV2, MessageFault, Smb2FileId, TreeOrAsync,
     read_durable_reconnect_v2, read_durable_request_v2, read_durable_response_v2, read_header, read_lease_v2, read_new_epoch,
 };

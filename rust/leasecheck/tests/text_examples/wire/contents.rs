@@ -1,7 +1,7 @@
 //! Whole messages of a capture, by bytes that are laid out by hand as MS-SMB2 has them.
 
 use crate::wire::KEY;
-use leasecheck::proved::capture_wire::{
+use smblease::proved::capture_wire::{
     CloseRequest, Command, Content, CreateContexts, LeaseContext, Message, MessageFault, Request, Response, Smb2FileId,
     Unreadable, read_create_contexts, read_message,
 };

@@ -4,7 +4,7 @@ use crate::wire::capture_lines::{answer, ask, ask_at_once, close, read_and_echo,
 use leasecheck::proved::capture_texts::{
     Capture, Judged, MessageName, MessagePart, RecordLine, Report, Side, notes_of, record_of,
 };
-use leasecheck::proved::capture_wire::Command;
+use smblease::proved::capture_wire::Command;
 use leasecheck::proved::lease_texts::push_fact;
 use smblease_std::alloc::Global;
 use smblease_std::prelude::{String, format};

@@ -1,6 +1,6 @@
 //! The requests and responses of a capture, by bytes that are laid out by hand as MS-SMB2 has them.
 
-use leasecheck::proved::capture_wire::{
+use smblease::proved::capture_wire::{
     CloseRequest, CreateRequest, CreateResponse, Guid, MessageFault, NegotiateRequest, NegotiateResponse, ReadRequest, Rename,
     SessionSetupRequest, SetInfoRequest, Smb2FileId, TreeConnectRequest, WriteRequest, read_close_request, read_create_request,
     read_create_response, read_disposition, read_header, read_negotiate_request, read_negotiate_response, read_read_request,

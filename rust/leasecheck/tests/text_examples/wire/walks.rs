@@ -6,7 +6,7 @@ use leasecheck::proved::capture_walk::{
     Asked, BreakNote, CreateAsked, CreateGiven, Event, Frame, FrameFault, Index, KeyLevel, LeaseGiven, Loss, NotJudged, Note,
     OpenName, Seen, TreeAsked, TreeGiven, Walk, chains_on, closed_behind, ids_of, level_of, note_of, read_frame,
 };
-use leasecheck::proved::capture_wire::{Guid, Smb2FileId};
+use smblease::proved::capture_wire::{Guid, Smb2FileId};
 use smblease::proved::lease_state::{LeaseKey, LeaseState, Memory};
 use smblease::proved::lease_wire::WireFault;
 use smblease_std::alloc::Global;

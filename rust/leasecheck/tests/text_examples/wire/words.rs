@@ -4,7 +4,7 @@ use leasecheck::proved::capture_texts::{
     Clash, ClientFinding, ClientName, FileFinding, FilePlace, Judged, MessageName, MessagePart, push_file, push_lost,
 };
 use leasecheck::proved::capture_walk::NotJudged;
-use leasecheck::proved::capture_wire::Command;
+use smblease::proved::capture_wire::Command;
 use smblease::proved::lease_state::Bytes;
 use smblease_std::alloc::Global;
 use smblease_std::prelude::{String, Vec, format};
