@@ -54,7 +54,7 @@ unfolding stepped_along managed_along
 calls_alone [] now other same = same
 calls_alone (Step.Calls coming ∷ steps) now other same =
     calls_alone steps (stepped (Step.Calls coming) now) (stepped (Step.Calls coming) other) (ap (λ m.
-        (managed m coming).manager) same)
+    (managed m coming).manager) same)
 calls_alone (Step.GoesOn one ∷ steps) now other same = calls_alone steps (stepped (Step.GoesOn one) now) other same
 calls_alone (Step.Waits one ∷ steps) now other same = calls_alone steps (stepped (Step.Waits one) now) other same
 calls_alone (Step.Leaves gone noted ∷ steps) now other same =
@@ -217,8 +217,8 @@ tries_once (file ∷ files) going test =
     let now = counted (goes file (after_asking file going).manager.server) test going.waiting in
     let later = tries_once files (tried_on file going) test in
     let both = ap (count test) (flat_map-append went_on_at (try_steps file going) (all_tries files (tried_on file going)))
-        ∙ count_append test (flat_map went_on_at (try_steps file going)) (flat_map went_on_at
-            (all_tries files (tried_on file going))) in
+    ∙ count_append test (flat_map went_on_at (try_steps file going)) (flat_map went_on_at
+    (all_tries files (tried_on file going))) in
     let went = ap (count test) (try_goes file going) in
     omega (arith, now, later, both, went)
 
@@ -310,7 +310,7 @@ call_once manager waiting (Calling.Comes coming own about leaves noted) test =
     let stay = counted leaves test waiting in
     let tried = tries_once (files_of own about start) start test in
     let left = count_append test (filter leaves waiting) (flat_map left_at tries)
-        ∙ ap (λ cs. count test (filter leaves waiting) + count test cs) (tries_leave (files_of own about start) start) in
+    ∙ ap (λ cs. count test (filter leaves waiting) + count test cs) (tries_leave (files_of own about start) start) in
     omega (arith, stay, tried, left)
 call_once manager waiting (Calling.Changes one) test =
     let start = after_giving manager waiting one in
@@ -319,10 +319,10 @@ call_once manager waiting (Calling.Changes one) test =
     let tried = tries_once (files_of None [] start) start test in
     let answered = last_once one (tried_after None [] start) test in
     let went = ap (count test) (flat_map-append went_on_at tries (last ∷ []))
-        ∙ count_append test (flat_map went_on_at tries) (flat_map went_on_at (last ∷ [])) in
+    ∙ count_append test (flat_map went_on_at tries) (flat_map went_on_at (last ∷ [])) in
     let left = ap (count test) (flat_map-append left_at tries (last ∷ [])
-        ∙ ap₂ (λ xs ys. xs ++ ys) (tries_leave (files_of None [] start) start) (last_leaves one
-            (tried_after None [] start))) in
+    ∙ ap₂ (λ xs ys. xs ++ ys) (tries_leave (files_of None [] start) start) (last_leaves one
+    (tried_after None [] start))) in
     omega (arith, tried, answered, went, left)
 
 call_left : (manager : Manager) (waiting : List Change) (calling : Calling) (one : Change)
@@ -338,8 +338,8 @@ call_left manager waiting (Calling.Changes other) one there =
     let tries = all_tries (files_of None [] start) start in
     let last = last_step other (tried_after None [] start) in
     absurd (subst (Among one) (flat_map-append left_at tries (last ∷ [])
-        ∙ ap₂ (λ xs ys. xs ++ ys) (tries_leave (files_of None [] start) start) (last_leaves other
-            (tried_after None [] start))) there)
+    ∙ ap₂ (λ xs ys. xs ++ ys) (tries_leave (files_of None [] start) start) (last_leaves other
+    (tried_after None [] start))) there)
 
 -- ---- runs
 
@@ -377,7 +377,7 @@ run_own (calling ∷ callings) going =
     ∙ filter-append stays (calls_in here) (calls_in later)
     ∙ ap₂ (λ xs ys. xs ++ ys)
     (first_alone (own_call calling) (calls_in (later_steps going.manager going.waiting calling))
-        (later_give going.manager going.waiting calling))
+    (later_give going.manager going.waiting calling))
     (run_own callings (going_on calling going))
     ∙ sym (filter-append stays (own_call calling ∷ []) (map own_call callings))
 
@@ -389,7 +389,7 @@ run_tags (calling ∷ callings) going asks =
     free_append (on_steps calling going) (run_steps callings (going_on calling going)) (handling_in going)
     (asks.0, all_freely later (managed going.manager (own_call calling)).manager (later_give going.manager going.waiting calling))
     (subst (λ m. HaveFreeTags m (calls_in (run_steps callings (going_on calling going)))) (ap
-        (λ h. h.manager) (same_on calling going))
+    (λ h. h.manager) (same_on calling going))
     (run_tags callings (going_on calling going) asks.1))
 
 run_once : (callings : List Calling) (going : Going) (test : Change → Bool)
@@ -405,9 +405,9 @@ run_once (calling ∷ callings) going test =
     let rest = run_once callings (going_on calling going) test in
     let asked = count_append test (asked_at calling) (flat_map asked_at callings) in
     let went = ap (count test) (flat_map-append went_on_at here later)
-        ∙ count_append test (flat_map went_on_at here) (flat_map went_on_at later) in
+    ∙ count_append test (flat_map went_on_at here) (flat_map went_on_at later) in
     let left = ap (count test) (flat_map-append left_at here later)
-        ∙ count_append test (flat_map left_at here) (flat_map left_at later) in
+    ∙ count_append test (flat_map left_at here) (flat_map left_at later) in
     omega (arith, first, rest, asked, went, left)
 
 run_left : (callings : List Calling) (going : Going) (one : Change) → Among one (flat_map left_at (run_steps callings going))
@@ -419,10 +419,10 @@ run_left (calling ∷ callings) going one there =
     ⊎_elim
     (λ first. rw (call_left going.manager going.waiting calling one first) refl)
     (λ second. or_of_true (is_left_at one calling) (list_any (is_left_at one) callings) (run_left callings
-        (going_on calling going) one second))
+    (going_on calling going) one second))
     (among_append one here later
-        (subst (Among one) (flat_map-append left_at (on_steps calling going) (run_steps callings
-            (going_on calling going))) there))
+    (subst (Among one) (flat_map-append left_at (on_steps calling going) (run_steps callings
+    (going_on calling going))) there))
 
 pub runs_are_of_managers : RunsAreOfManagers
 runs_are_of_managers callings before = record {
