@@ -1,0 +1,15 @@
+"""Leases of version 2 from C: the example, and the fields of each struct."""
+from __future__ import annotations
+
+from pathlib import Path
+
+import pytest
+
+from tests.c import building
+from tests.c.building import Ended, run
+
+
+@pytest.mark.parametrize("source", ["examples/c/epochs.c", "tests/c/versions.c"])
+def test_program(folder: Path, source: str) -> None:
+    wanted = {"examples/c/epochs.c": "client 1: granted 7, epoch 5\nclient 1: broken to 3, epoch 6\n", "tests/c/versions.c": ""}
+    assert run(building.program(folder, source)) == Ended(0, wanted[source])
