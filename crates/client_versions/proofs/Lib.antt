@@ -1,0 +1,6 @@
+pub mod Given
+pub mod Newest
+pub mod Numbers
+pub mod Orders
+pub mod Steps
+pub mod Tables

@@ -1,0 +1,5 @@
+pub mod Layer
+pub mod Epochs
+pub mod Rows
+pub mod Kept
+pub mod Laws
