@@ -45,6 +45,7 @@ PACKAGES = (
         (
             *("lease_state", "lease_wire", "lease_manager", "break_timers", "share_server", "lease_client", "lease_facts"),
             *("lease_world", "kept_opens", "waiting_changes", "capture_wire", "lease_wire_v2", "lease_versions"),
+            "client_versions",
         ),
     ),
     Package("smblease_c", ("lease_c", "machines_c")),
