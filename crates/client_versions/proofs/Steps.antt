@@ -104,7 +104,7 @@ after_kept known told = either (is_taken known told)
 
 in_break_kept : (known told : Known) → IsKept known (Some (known_in_break (Some known) told))
 in_break_kept known told = either (is_newer known.epoch told.epoch)
-    (λ e. rw e (record known { epoch = told.epoch }, refl, inr e))
+    (λ e. rw e (told, refl, inr e))
     (λ e. rw e (known, refl, inl refl))
 
 kept : (known : Known) (message : Option Message) → IsKept known (known_then (Some known) message)
@@ -209,10 +209,18 @@ module _ (start : ℕ) (newest : Known) (s : start < 65536) (bound : newest.epoc
       (λ same. rw same (either (is_taken newest newest) (λ e. rw e refl) (λ e. rw e refl)))
       w.behind
 
-  lasts_in_break : (told : Known) → told.epoch < 65536 → ahead start told.epoch < ahead start newest.epoch
-      → known_in_break (Some newest) told ≡ newest
-  lasts_in_break told number behind =
-      rw (not_newer start newest.epoch told.epoch s bound number window behind) refl
+  -- so it is with an answer while a break is in progress
+  replaces_in_break : (known : Known) → IsHeld start newest (Some known) → known_in_break (Some known) newest ≡ newest
+  replaces_in_break known held = ⊎_elim
+      (λ behind. rw (newer start known.epoch newest.epoch s held.0 bound window behind) refl)
+      (λ same. rw same (either (is_newer newest.epoch newest.epoch) (λ e. rw e refl) (λ e. rw e refl)))
+      held.2
+
+  lasts_in_break : (told : Known) → IsWithin start newest told → known_in_break (Some newest) told ≡ newest
+  lasts_in_break told w = ⊎_elim
+      (λ behind. rw (not_newer start newest.epoch told.epoch s bound w.number window behind) refl)
+      (λ same. rw same (either (is_newer newest.epoch newest.epoch) (λ e. rw e refl) (λ e. rw e refl)))
+      w.behind
 
   held_after : (known told : Known) → IsHeld start newest (Some known) → IsWithin start newest told
       → IsHeld start newest (Some (known_after (Some known) told))
@@ -221,9 +229,9 @@ module _ (start : ℕ) (newest : Known) (s : start < 65536) (bound : newest.epoc
       (λ e. rw e held)
 
   held_in_break : (known told : Known) → IsHeld start newest (Some known) → IsWithin start newest told
-      → ahead start told.epoch < ahead start newest.epoch → IsHeld start newest (Some (known_in_break (Some known) told))
-  held_in_break known told held w behind = either (is_newer known.epoch told.epoch)
-      (λ e. rw e (w.number, w.window, inl behind))
+      → IsHeld start newest (Some (known_in_break (Some known) told))
+  held_in_break known told held w = either (is_newer known.epoch told.epoch)
+      (λ e. rw e (told_held told w))
       (λ e. rw e held)
 
   not_zero : (told : Known) → start ≡ 0 → IsWithin start newest told → (told.epoch == 0) ≡ false
@@ -240,8 +248,8 @@ module _ (start : ℕ) (newest : Known) (s : start < 65536) (bound : newest.epoc
   held_then found None held m = held
   held_then None (Some (Message.Grant told)) held m = told_held told m
   held_then (Some known) (Some (Message.Grant told)) held m = held_after known told held m
-  held_then None (Some (Message.InBreak told)) held m = told_held told m.0
-  held_then (Some known) (Some (Message.InBreak told)) held m = held_in_break known told held m.0 m.1
+  held_then None (Some (Message.InBreak told)) held m = told_held told m
+  held_then (Some known) (Some (Message.InBreak told)) held m = held_in_break known told held m
   held_then None (Some (Message.Break told)) held m = rw (not_zero told held m) (told_held told m)
   held_then (Some known) (Some (Message.Break told)) held m = held_after known told held m
 
@@ -251,7 +259,9 @@ module _ (start : ℕ) (newest : Known) (s : start < 65536) (bound : newest.epoc
   tells_newest None (Some (Message.Grant told)) held m tells = ap Some tells
   tells_newest (Some known) (Some (Message.Grant told)) held m tells =
       rw tells (ap Some (replaces known held))
-  tells_newest found (Some (Message.InBreak told)) held m tells = absurd tells
+  tells_newest None (Some (Message.InBreak told)) held m tells = ap Some tells
+  tells_newest (Some known) (Some (Message.InBreak told)) held m tells =
+      rw tells (ap Some (replaces_in_break known held))
   tells_newest None (Some (Message.Break told)) held m tells = rw (not_zero told held m) (ap Some tells)
   tells_newest (Some known) (Some (Message.Break told)) held m tells =
       rw tells (ap Some (replaces known held))
@@ -260,7 +270,7 @@ module _ (start : ℕ) (newest : Known) (s : start < 65536) (bound : newest.epoc
       → known_then (Some newest) message ≡ Some newest
   lasts_then None m = refl
   lasts_then (Some (Message.Grant told)) m = ap Some (lasts told m)
-  lasts_then (Some (Message.InBreak told)) m = ap Some (lasts_in_break told m.0.number m.1)
+  lasts_then (Some (Message.InBreak told)) m = ap Some (lasts_in_break told m)
   lasts_then (Some (Message.Break told)) m = ap Some (lasts told m)
 
   lasts_all : (key : List ℕ) (events : List Event) (layer : Layer) → layer.leases key ≡ Some newest
@@ -287,7 +297,7 @@ found_within : (start : ℕ) (newest : Known) (message : Option Message) → IsM
     → TellsThis newest message → IsWithin start newest newest
 found_within start newest None m tells = absurd tells
 found_within start newest (Some (Message.Grant told)) m tells = subst (IsWithin start newest) tells m
-found_within start newest (Some (Message.InBreak told)) m tells = absurd tells
+found_within start newest (Some (Message.InBreak told)) m tells = subst (IsWithin start newest) tells m
 found_within start newest (Some (Message.Break told)) m tells = subst (IsWithin start newest) tells m
 
 newest_within : (start : ℕ) (newest : Known) (key : List ℕ) (events : List Event) → AreWithin key start newest events

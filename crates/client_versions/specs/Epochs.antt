@@ -26,12 +26,11 @@ abbrev pub known_after : Option Known → Known → Known
 known_after None told = told
 known_after (Some known) told = if is_taken known told then told else known
 
--- The answer while a break is in progress has the epoch of that break, and the state before it: of a lease that is known its
--- newer epoch alone is taken.
+-- The answer while a break is in progress has the epoch of that break, and the state before it. Of a lease that is known both
+-- are taken where the epoch is newer, so that the notice of that break goes down from there; else nothing is taken.
 abbrev pub known_in_break : Option Known → Known → Known
 known_in_break None told = told
-known_in_break (Some known) told =
-    if is_newer known.epoch told.epoch then record known { epoch = told.epoch } else known
+known_in_break (Some known) told = if is_newer known.epoch told.epoch then told else known
 
 -- the epoch that the next create under the key asks with (2.2.13.2.10)
 abbrev pub epoch_known : Option Known → ℕ

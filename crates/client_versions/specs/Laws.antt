@@ -120,12 +120,10 @@ pub record IsWithin (start : ℕ) (newest told : Known) : Type 0 where
   pub window : ahead start told.epoch < 32768
   pub behind : (ahead start told.epoch < ahead start newest.epoch) ⊎ (told ≡ newest)
 
--- an answer while a break is in progress is not the newest
 abbrev pub IsMessageWithin : ℕ → Known → Option Message → Type 0
 IsMessageWithin start newest None = ⊤
 IsMessageWithin start newest (Some (Grant told)) = IsWithin start newest told
-IsMessageWithin start newest (Some (InBreak told)) =
-    IsWithin start newest told × (ahead start told.epoch < ahead start newest.epoch)
+IsMessageWithin start newest (Some (InBreak told)) = IsWithin start newest told
 IsMessageWithin start newest (Some (Break told)) = IsWithin start newest told
 
 abbrev pub AreWithin : List ℕ → ℕ → Known → List Event → Type 0
@@ -133,11 +131,11 @@ AreWithin key start newest [] = ⊤
 AreWithin key start newest (event ∷ events) =
     IsMessageWithin start newest (message_at key event) × AreWithin key start newest events
 
--- a message tells this, and no break is in progress
+-- a message tells this
 abbrev pub TellsThis : Known → Option Message → Type 0
 TellsThis newest None = ⊥
 TellsThis newest (Some (Grant told)) = told ≡ newest
-TellsThis newest (Some (InBreak told)) = ⊥
+TellsThis newest (Some (InBreak told)) = told ≡ newest
 TellsThis newest (Some (Break told)) = told ≡ newest
 
 abbrev pub OneTells : List ℕ → Known → List Event → Type 0
@@ -240,7 +238,8 @@ OrderDoesNotMatter = (key : List ℕ) (events others : List Event) (layer : Laye
     → AreWithin key (epoch_known (layer.leases key)) newest events → OneTells key newest events
     → (happened_all others layer).leases key ≡ (happened_all events layer).leases key
 
--- Answers while a break is in progress tell epochs too: of all messages in any order the newest epoch is known in the end.
+-- The answer while a break is in progress and the notice of that break have one epoch, and two states. Whatever states the
+-- messages tell: of all of them in any order the newest epoch is known in the end.
 abbrev pub NewestEpochIsKnown : Type 0
 NewestEpochIsKnown = (key : List ℕ) (events : List Event) (layer : Layer) (newest : ℕ)
     → epoch_known (layer.leases key) < 65536 → ahead (epoch_known (layer.leases key)) newest < 32768

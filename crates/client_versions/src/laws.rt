@@ -4,10 +4,10 @@ ghost use Rattle.client_versions.specs.Laws.{NewestEpochIsKnown, OrderDoesNotMat
 
 /// Laws of what is known and given, over any messages: of messages that come in order the machine is given all as they were
 /// sent; of those in any order the newest one's epoch and state are known in the end, so that their order doesn't matter, and
-/// where answers that report a break in progress are among them, the newest epoch; the known epoch never goes back, and a
-/// create asks with one that isn't older than any that was known; a notice that is dropped changes nothing; version 2 changes
-/// nothing of what a machine asks for, and its durable contexts go together; and a reconnect has the CreateGuid of its open's
-/// create. Does nothing.
+/// where those of the newest epoch differ in their states, that epoch; the known epoch never goes back, and a create asks with
+/// one that isn't older than any that was known; a notice that is dropped changes nothing; version 2 changes nothing of what a
+/// machine asks for, and its durable contexts go together; and a reconnect has the CreateGuid of its open's create. Does
+/// nothing.
 pub fn client_version_laws()
     ensures in_order { InOrderAllIsGiven }
     ensures newest { NewestIsKnown }

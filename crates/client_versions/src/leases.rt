@@ -68,12 +68,8 @@ impl Known {
         ensures { known_of result ≡ epochs.known_in_break (option_map known_of found) (known_of told) }
     {
         match found {
-            None => told,
-            Some(known) if is_newer(known.epoch, told.epoch) => Known {
-                epoch: told.epoch,
-                ..known
-            },
-            Some(known) => known,
+            Some(known) if !is_newer(known.epoch, told.epoch) => known,
+            _ => told,
         }
     }
 }

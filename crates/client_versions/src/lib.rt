@@ -19,9 +19,11 @@
 //! ```
 //!
 //! Messages of several connections come in any order. Of each lease the newest epoch and the newest state are known: an answer
-//! that is older gives the machine that state, and a notice that is older is dropped. What is known of a lease is kept when it
-//! ends, so that the next life of its key begins above all that was said before, and what is late from an earlier life is older
-//! too. `client_version_laws` says what holds over any messages.
+//! that is older gives the machine that state, and a notice that is older is dropped. An answer while a break is in progress has
+//! the epoch of that break and the state before it: where the epoch is newer, both are known then, so that the notice of that
+//! break goes down from there and is passed on. What is known of a lease is kept when it ends, so that the next life of its key
+//! begins above all that was said before, and what is late from an earlier life is older too. `client_version_laws` says what
+//! holds over any messages.
 #![tactic(auto)]
 
 mod guids;

@@ -156,6 +156,42 @@ fn an_answer_in_a_break_overtakes_its_notice(rt: HostRuntime) -> Result<(), Fail
     Ok(())
 }
 
+// The answer that granted epoch 2 was lost with its connection.
+#[test]
+fn the_notice_after_an_answer_in_a_break_is_passed_on(rt: HostRuntime) -> Result<(), Fail> {
+    let mut versions = ClientVersions::new(rt.alloc());
+    assert_eq!(rt;
+        answered(&mut versions, &answer_with(1, 1, false))?,
+        given(1, false)
+    );
+    assert_eq!(rt;
+        answered(&mut versions, &answer_with(3, 7, true))?,
+        given(7, true)
+    );
+    assert_eq!(rt; ask(&versions), asked_with(3));
+    assert_eq!(rt; versions.noticed(&notice(3, 3))?, Some(notification(3)));
+    assert_eq!(rt; ask(&versions), asked_with(3));
+    Ok(())
+}
+
+#[test]
+fn an_answer_in_a_break_after_its_notice_is_not_taken(rt: HostRuntime) -> Result<(), Fail> {
+    let mut versions = ClientVersions::new(rt.alloc());
+    assert_eq!(rt; versions.noticed(&notice(3, 3))?, Some(notification(3)));
+    assert_eq!(rt;
+        answered(&mut versions, &answer_with(3, 7, true))?,
+        given(7, true)
+    );
+    assert_eq!(rt; versions.noticed(&notice(3, 3))?, None);
+    assert_eq!(rt;
+        answered(&mut versions, &answer_with(2, 7, true))?,
+        given(7, true)
+    );
+    assert_eq!(rt; versions.noticed(&notice(3, 3))?, None);
+    assert_eq!(rt; ask(&versions), asked_with(3));
+    Ok(())
+}
+
 #[test]
 fn epoch_0_follows_on_65535(rt: HostRuntime) -> Result<(), Fail> {
     let mut versions = ClientVersions::new(rt.alloc());

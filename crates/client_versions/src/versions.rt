@@ -68,9 +68,10 @@ impl ClientVersions {
     /// The answer to a create that was asked for under this guid, as the machine takes it; its open has this FileId (MS-SMB2
     /// 3.2.5.7.5, 2.2.14.2.11). The epoch and the state of its lease are known from now on where nothing was known of the
     /// lease, where the epoch is newer than the known one, or where it is the known one and the state goes down (own). The
-    /// machine is given the state that is known then. An answer while a break is in progress goes as it came, and of a lease
-    /// that is known only its newer epoch is taken (own). A lease context of version 1 goes as it came, and nothing of it is
-    /// kept. Where the answer has `DH2Q`, the guid is kept with the FileId.
+    /// machine is given the state that is known then. An answer while a break is in progress goes as it came. It has the epoch
+    /// of that break and the state before it: of a lease that is known both are taken where the epoch is newer, so that the
+    /// notice of that break goes down from there; else nothing is taken (own). A lease context of version 1 goes as it came,
+    /// and nothing of it is kept. Where the answer has `DH2Q`, the guid is kept with the FileId.
     ///
     /// # Errors
     ///
