@@ -18,7 +18,7 @@ INSTALLED = {
     "drive/capture": "smblease-capture", "serve/run": "smblease-serve", "serve/torture": "smblease-torture",
 }
 # What a package of Python is an extra of (pyproject.toml).
-EXTRAS = {"impacket": "servers"}
+EXTRAS = {"impacket": "servers", "cryptography": "servers"}
 
 
 def is_of_a_clone() -> bool:

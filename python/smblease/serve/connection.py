@@ -9,18 +9,24 @@ from typing import TYPE_CHECKING
 
 from smblease import Status
 from smblease.drive.headers import ASYNC, FROM_SERVER, UNASKED, Command, Unreadable
+from smblease.drive.packets import ENCRYPTED
 from smblease.serve.asks import Handling
 from smblease.serve.chains import Chain, Pending
+from smblease.serve.dialects import Dialect
+from smblease.serve.encrypted_requests import opened_requests
 from smblease.serve.faults_on_demand import NOTIFICATION, REFUSES, Peer
 from smblease.serve.former_keys import FormerKeys
+from smblease.serve.negotiation import NO_GUID, Terms, negotiated_by_name
 from smblease.serve.opens import ManagerClient
 from smblease.serve.outgoing import Outgoing
 from smblease.serve.packets import (LONGEST_FRAME, LONGEST_WITHOUT_SESSION, MOST_IN_FRAME, Answer, Credits, Frames,
                                     RequestMessage, Response, framed, split_compound)
 from smblease.serve.request import WITHOUT_SESSION, WITHOUT_TREE, Request
 from smblease.serve.session_wait import SessionWait
-from smblease.serve.sessions import ANY_DIALECT, Session, negotiated
+from smblease.serve.sessions import Session
+from smblease.serve.signing import Signer
 from smblease.serve.status_error import EXHAUSTED, StatusError, name_of
+from smblease.serve.transforms import SessionEncryption
 
 if TYPE_CHECKING:
     from smblease.serve.server import Server
@@ -31,7 +37,6 @@ MOST_PENDING = 512
 TURN = 0.002
 CANCEL = Command.CANCEL
 OLD_PROTOCOL = b"\xffSMB"
-OLD_NEGOTIATE = 0x72
 
 
 class Connection(asyncio.Protocol):  # pylint: disable=too-many-instance-attributes  # it has what came and what goes
@@ -40,7 +45,8 @@ class Connection(asyncio.Protocol):  # pylint: disable=too-many-instance-attribu
         # of IP, and with its port
         self.address = self.place = ""
         self.guid: bytes | None = None
-        self.is_negotiated = False
+        self.terms: Terms | None = None
+        self.dialect: Dialect | None = None
         self.is_open = True
         self.client: ManagerClient | None = None
         self.sessions: dict[int, Session] = {}
@@ -165,7 +171,8 @@ class Connection(asyncio.Protocol):  # pylint: disable=too-many-instance-attribu
             self._old_negotiate(frame)
         elif frame:
             chain: Chain | None = None
-            for message in split_compound(frame, MOST_IN_FRAME if self.is_negotiated else 1):
+            for message in (opened_requests(self.sessions, frame) if frame[:4] == ENCRYPTED
+                            else split_compound(frame, MOST_IN_FRAME if self.terms else 1)):
                 self._credit(message)
                 if message.command is CANCEL:
                     self._cancel(message)
@@ -186,17 +193,31 @@ class Connection(asyncio.Protocol):  # pylint: disable=too-many-instance-attribu
         command = message.command
         if message.flags & FROM_SERVER:
             raise Unreadable
+        if self.dialect is Dialect.SMB_2_0_2:
+            message.forget_charge()
         if command is not CANCEL and (self.guid is None and command is not Command.NEGOTIATE
                                       or not self._credits.take(message.identifier, message.charge or 1)):
             raise Unreadable
 
     def _old_negotiate(self, frame: bytes) -> None:
-        """The NEGOTIATE of SMB 1 that names SMB 2 among its dialects (3.3.5.3.1)."""
-        is_one = frame[4:5] == bytes([OLD_NEGOTIATE]) and b"\x02SMB 2.???\0" in frame
-        if self.is_negotiated or not is_one or not self._credits.take(0, 1):
+        if self.terms or not self._credits.take(0, 1):
             raise Unreadable
-        answer = negotiated(self.server, ANY_DIALECT)
+        terms, answer = negotiated_by_name(self.server, frame)
+        if terms:
+            self.agree(terms)
         self.outgoing.send(framed([Response(Command.NEGOTIATE, answer.status, 0, self._credits.grant(1), 0, 0, answer.body)]))
+
+    def agree(self, terms: Terms) -> None:
+        """What it speaks from here on. A client of 2.0.2 may have no ClientGuid (2.2.3); it gets one that no other client has."""
+        guid = terms.asked.guid
+        self.terms, self.dialect = terms, terms.dialect
+        is_nobody = terms.dialect is Dialect.SMB_2_0_2 and guid == NO_GUID
+        self.guid = self.server.settings.chance.take(len(guid)) if is_nobody else guid
+
+    @property
+    def seals(self) -> SessionEncryption | None:
+        """What a message is sealed by that is for none of its sessions."""
+        return next((it.seals for it in self.sessions.values() if it.seals), None)
 
     def begin(self, pending: Pending) -> None:
         server = self.server
@@ -253,20 +274,23 @@ class Connection(asyncio.Protocol):  # pylint: disable=too-many-instance-attribu
 
     def response(self, pending: Pending, answer: Answer, session: int, tree: int) -> Response:
         message = pending.request.message
-        key = answer.key or (self._key_of(session, message) if message.is_signed else None)
+        signer = answer.signer or (self._signer_of(session, message) if message.is_signed else None)
         granted = self._credits.grant(message.credits_asked) if pending.async_id is None else 0
         flags = FROM_SERVER | (message.flags & 4)
-        return Response(message.code, answer.status, message.identifier, granted, session, tree, answer.body,
-                        answer.data, message.charge, flags, pending.async_id, key)
+        made = Response(message.code, answer.status, message.identifier, granted, session, tree, answer.body, answer.data,
+                        message.charge, flags, pending.async_id, None if message.encryption else signer, message.encryption)
+        if answer.integrity:
+            answer.integrity.add(made.header(0) + made.body)
+        return made
 
-    def _key_of(self, session: int, message: RequestMessage) -> bytes | None:
+    def _signer_of(self, session: int, message: RequestMessage) -> Signer | None:
         """That of a session, one that is over too. Of one that is another connection's only who knows its key gets an answer
         that is signed."""
         found = self.sessions.get(session)
         if found:
-            return found.key
+            return found.signer
         elsewhere = self.server.sessions.get(session)
-        return elsewhere.key if elsewhere and elsewhere.has_signed(message) else self.former_keys.of(session)
+        return elsewhere.signer if elsewhere and elsewhere.has_signed(message) else self.former_keys.of(session)
 
     def send_interim_response(self, pending: Pending) -> None:
         """STATUS_PENDING, for a request that waits (3.3.4.2)."""
@@ -277,6 +301,9 @@ class Connection(asyncio.Protocol):  # pylint: disable=too-many-instance-attribu
         interim = self.response(pending, Answer(Status.PENDING), pending.request.session_id, pending.request.tree_id)
         pending.async_id = interim.async_id = next(self.server.async_ids)
         interim.flags = FROM_SERVER | ASYNC | (message.flags & 4)
+        if interim.signer and interim.signer.is_by_number:
+            # The answer has the same number.
+            interim.signer = None
         self.outgoing.send(framed([interim]))
 
     def _cancel(self, message: RequestMessage) -> None:
@@ -294,12 +321,17 @@ class Connection(asyncio.Protocol):  # pylint: disable=too-many-instance-attribu
             self.server.host.withdraw(found)
             self.server.settle()
 
-    def notify(self, body: bytes) -> None:
+    def notify(self, body: bytes, encryption: SessionEncryption | None = None) -> None:
         """A break (2.2.23)."""
         self.outgoing.send_held()
-        response = Response(Command.OPLOCK_BREAK, Status.SUCCESS, UNASKED, 0, 0, 0, body)
+        response = Response(Command.OPLOCK_BREAK, Status.SUCCESS, UNASKED, 0, 0, 0, body, encryption=encryption)
         if self.outgoing.keep_back(NOTIFICATION, response) is None:
             self.outgoing.send(framed([response]))
+
+    def end(self) -> None:
+        """Closes it after what was answered."""
+        self.outgoing.send_all()
+        self.close()
 
     def close(self) -> None:
         if self.is_open:

@@ -9,10 +9,12 @@ from smblease.manager_decisions import Opened
 from smblease.serve.access import ALL_ACCESS, READING, SHARE_READ, WRITING, is_of_attributes, is_stat, writes
 from smblease.serve.asks import Handling, StartOver, Steps, Waits, opening, to_open
 from smblease.serve.attributes import attributes_of
+from smblease.serve.create_by_dialect import heeded
 from smblease.serve.create_parameters import (ALLOCATION, CREATE, CREATED, DELETE_ON_CLOSE, DIRECTORY_FILE, MAKING, MOST_ACCESS,
                                               NON_DIRECTORY_FILE, ON_DISK, OPENED, OVERWRITE, OVERWRITE_IF, OVERWRITTEN, RWH,
                                               SUPERSEDE, SUPERSEDED, WRITE_THROUGH, CreateParameters, check, conflicts, level_of,
                                               oplock_state, read_parameters)
+from smblease.serve.dialects import Dialect
 from smblease.serve.kept_attributes import HIDDEN, READ_ONLY, SYSTEM, keep
 from smblease.serve.node import Node
 from smblease.serve.opens import BATCH, LEASE, NO_LEVEL, ManagerClient, Open
@@ -31,6 +33,8 @@ DONE = struct.Struct("<HBBL52s4xQQLL")
 class Create(Handlers):
     def create(self, request: Request) -> Handling:
         wanted = read_parameters(request.message)
+        if request.connection.dialect is not Dialect.SMB_2_1:
+            wanted = heeded(wanted, request.connection.dialect)
         if wanted.ask.reconnect is not None:
             return (yield from self._reconnect(request, wanted))
         check(wanted, self._server.settings.limit)

@@ -48,12 +48,15 @@ class Leases(Handlers):
         if client.open:
             self._oplock_broken(client.open, state, notification.ack_required)
         else:
-            self._connection_of(client, lease).notify(notification.write())
+            opened = next((it for it in lease.opens if it.connection), None)
+            self._notify(opened, client.connections[0], notification.write())
 
     @staticmethod
-    def _connection_of(client: ManagerClient, lease: LeaseSeen) -> Connection:
-        """Where a break is sent: over the connection of an open under the key, if there is one (3.3.4.7)."""
-        return next((it.connection for it in lease.opens if it.connection), client.connections[0])
+    def _notify(opened: Open | None, other: Connection, body: bytes) -> None:
+        """A break is sent over the connection of an open under the key, if there is one (3.3.4.7), and encrypted as that open's
+        session is."""
+        connection, session = (opened and opened.connection) or other, opened and opened.session
+        connection.notify(body, session.seals if session else connection.seals)
 
     def _oplock_broken(self, opened: Open, state: LeaseState, is_acknowledged: bool) -> None:
         """What is left of an oplock is level II, where its lease may still be read under."""
@@ -61,7 +64,7 @@ class Leases(Handlers):
         was = opened.level
         opened.change_level(left)
         if left != was and opened.connection:
-            opened.connection.notify(OPLOCK.pack(24, left, 0, 0, opened.file_id, opened.file_id))
+            self._notify(opened, opened.connection, OPLOCK.pack(24, left, 0, 0, opened.file_id, opened.file_id))
         if is_acknowledged and was == LEVEL_II:
             # A client doesn't acknowledge a break of level II.
             self._server.start(self._acknowledge_itself(opened, state & LeaseState.R))

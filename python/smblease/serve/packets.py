@@ -1,21 +1,23 @@
-"""SMB2 messages as they come and go: frames, headers, compounds and signatures (2.1, 2.2.1)."""
+"""SMB2 messages as they come and go: frames, headers and compounds (2.1, 2.2.1)."""
 from __future__ import annotations
 
-import hashlib
-import hmac
 import struct
 from dataclasses import dataclass, field
-from typing import Any
+from typing import TYPE_CHECKING, Any
 
 from smblease.drive.headers import ASYNC, COMMANDS, FROM_SERVER, HEADER, RELATED, Command, Message, Unreadable
 from smblease.drive.packets import PROTOCOL
+from smblease.serve.signing import NO_SIGNATURE, Signer, signed
+
+if TYPE_CHECKING:
+    from smblease.serve.preauth_integrity import PreauthIntegrity
+    from smblease.serve.transforms import SessionEncryption
 
 HEAD = struct.Struct("<4sHHLHHLLQQQ16s")
 LENGTH = struct.Struct(">L")
 # A request's header: its beginning, charge, command, credits, flags, where the next one is, its number, tree and session.
 ASKED = struct.Struct("<4sHH4xHHLLQ4xLQ16x")
 NUMBER = struct.Struct("<L")
-NO_SIGNATURE = bytes(16)
 PADDINGS = tuple(map(bytes, range(8)))
 ERROR_BODY = struct.pack("<HBBL", 9, 0, 0, 0) + b"\0"
 SIGNED = 8
@@ -47,6 +49,8 @@ class RequestMessage(Message):
     credits_asked: int
     is_related: int
     is_signed: int
+    # what it was opened by, where it came encrypted
+    encryption: SessionEncryption | None = None
 
     def __init__(self, data: bytes, head: tuple[Any, ...]) -> None:  # pylint: disable=super-init-not-called  # (which is slower)
         """Its header is read once: the fields of ASKED."""
@@ -55,6 +59,13 @@ class RequestMessage(Message):
             "data": data, "charge": charge, "code": code, "command": COMMANDS.get(code), "credits_asked": credits_asked,
             "flags": flags, "identifier": identifier, "tree": tree, "session": session, "is_related": flags & RELATED,
             "is_signed": flags & SIGNED})
+
+    def came_encrypted(self, encryption: SessionEncryption) -> None:
+        object.__setattr__(self, "encryption", encryption)
+
+    def forget_charge(self) -> None:
+        """Dialect 2.0.2 has none (2.2.1.2)."""
+        object.__setattr__(self, "charge", 0)
 
     @property
     def async_id(self) -> int | None:
@@ -111,7 +122,9 @@ class Answer:
     session: int | None = None
     tree: int | None = None
     opened: int | None = None
-    key: bytes | None = None
+    signer: Signer | None = None
+    # the hash that it becomes a part of, as it is sent
+    integrity: PreauthIntegrity | None = None
 
 
 @dataclass
@@ -129,7 +142,9 @@ class Response:
     charge: int = 0
     flags: int = FROM_SERVER
     async_id: int | None = None
-    key: bytes | None = field(default=None, repr=False)
+    signer: Signer | None = field(default=None, repr=False)
+    # what the frame is sealed by that it is in
+    encryption: SessionEncryption | None = field(default=None, repr=False)
 
     def length(self) -> int:
         return HEADER + len(self.body) + len(self.data)
@@ -138,41 +153,32 @@ class Response:
         place, flags = self.tree << 32, self.flags
         if self.async_id is not None:
             place, flags = self.async_id, flags | ASYNC
-        if self.key:
+        if self.signer:
             flags |= SIGNED
         return HEAD.pack(PROTOCOL, HEADER, self.charge, self.status, self.command, self.credits, flags, following,
                          self.message, place, self.session, NO_SIGNATURE)
 
 
-def signature(data: bytes, key: bytes) -> bytes:
-    """That of a message (3.1.4.1): of a session of dialect 2.1 the first half of an HMAC of SHA-256."""
-    made = hmac.new(key, data[:48], hashlib.sha256)
-    made.update(bytes(16))
-    made.update(memoryview(data)[64:])
-    return made.digest()[:16]
-
-
-def signed(data: bytes, key: bytes) -> bytes:
-    """A message with its signature."""
-    return b"".join((data[:48], signature(data, key), memoryview(data)[64:]))
-
-
 def framed(responses: list[Response]) -> bytes:
-    """A frame of one message, or of a compound whose messages begin at multiples of eight."""
+    """A frame of one message, or of a compound whose messages begin at multiples of eight; what answers encrypted requests is
+    sealed whole."""
     last = responses[-1]
-    if len(responses) == 1 and not last.key:
+    if len(responses) == 1 and not last.signer and not last.encryption:
         return b"".join((LENGTH.pack(HEADER + len(last.body) + len(last.data)), last.header(0), last.body, last.data))
     parts, total = [b""], 0
     for response in responses:
         length = response.length()
         padding = 0 if response is last else -length % 8
         following = 0 if response is last else length + padding
-        if response.key:
+        if response.signer:
             message = b"".join((response.header(following), response.body, response.data, PADDINGS[padding]))
-            parts.append(signed(message, response.key))
+            parts.append(signed(message, response.signer))
         else:
             parts += (response.header(following), response.body, response.data, PADDINGS[padding])
         total += length + padding
+    if last.encryption:
+        sealed = last.encryption.sealed(b"".join(parts))
+        return LENGTH.pack(len(sealed)) + sealed
     parts[0] = LENGTH.pack(total)
     return b"".join(parts)
 

@@ -19,6 +19,7 @@ from smblease.program import find_program, judge
 from smblease.serve.chance import Chance, SeededChance
 from smblease.serve.connection import Connection
 from smblease.serve.control import controlled
+from smblease.serve.dialects import DEFAULT, NAMES, Dialects, dialects_of
 from smblease.serve.disk import Disk
 from smblease.serve.disk_bytes import LARGEST
 from smblease.serve.event_loop import Loop, ending_signals
@@ -47,7 +48,7 @@ refused; 3 the record is unsafe."""
 
 
 def parser() -> argparse.ArgumentParser:
-    made = parser_of("serve/run", "Serves SMB 2.1 by the proved manager of leases, on a port.", EPILOG)
+    made = parser_of("serve/run", "Serves SMB 2.1, or other dialects, by the proved manager of leases, on a port.", EPILOG)
     made.add_argument("--port", type=int, required=True, metavar="N", help="the port; 0 for a free one")
     made.add_argument("--share", required=True, metavar="NAME", help="the name of the share")
     made.add_argument("--address", default="127.0.0.1", metavar="A", help="where to listen (127.0.0.1)")
@@ -61,6 +62,11 @@ def parser() -> argparse.ArgumentParser:
                            f"is taken from a file, else from the variable {PASSWORD_VARIABLE}")
     made.add_argument("--password-file", metavar="FILE", help="the user's password, which is the first line of this file")
     made.add_argument("--guests", action="store_true", help="let guests in too; the user's client then chooses whether to sign")
+    made.add_argument("--min", default=DEFAULT, metavar="DIALECT", help=f"the least dialect: {', '.join(NAMES)} ({DEFAULT})")
+    made.add_argument("--max", default=DEFAULT, metavar="DIALECT",
+                      help=f"the greatest dialect ({DEFAULT}); those of 3 need cryptography")
+    made.add_argument("--encrypt", action="store_true",
+                      help="refuse what isn't encrypted; goes with --user, and a --max of 3.0 or more")
     made.add_argument("--break-timer", type=float, default=35.0, metavar="S", help="seconds that a break is waited for (35)")
     made.add_argument("--durable-timer", type=float, default=960.0, metavar="S",
                       help="seconds that a durable open is kept without a connection (960)")
@@ -118,6 +124,18 @@ def user_of(user: str | None, file: str | None, variables: Mapping[str, str]) ->
     return NamedUser(name, password)
 
 
+def dialects(arguments: argparse.Namespace) -> Dialects:
+    found = dialects_of(arguments.min, arguments.max)
+    if arguments.encrypt and (arguments.user is None or arguments.guests):
+        raise Usage("--encrypt goes with --user, and without --guests: guests have no keys")
+    if arguments.encrypt and not found.has_3:
+        raise Usage("--encrypt goes with a --max of 3.0 or more")
+    if found.has_3:
+        # Those of 2 are served without that package.
+        need("cryptography", f"--max {arguments.max}")
+    return found
+
+
 def settings_of(arguments: argparse.Namespace) -> Settings:
     if not 0 <= arguments.port <= 65535:
         raise Usage("--port is from 0 to 65535")
@@ -138,7 +156,7 @@ def settings_of(arguments: argparse.Namespace) -> Settings:
     return Settings(arguments.share, user_of(arguments.user, arguments.password_file, os.environ),
                     arguments.break_timer, arguments.durable_timer, arguments.session_timer,
                     arguments.guests or arguments.user is None, rules_of(arguments.rules), arguments.limit,
-                    Chance() if arguments.seed is None else SeededChance(arguments.seed))
+                    Chance() if arguments.seed is None else SeededChance(arguments.seed), dialects(arguments), arguments.encrypt)
 
 
 def allow_descriptors() -> None:

@@ -156,8 +156,8 @@ class Server:  # pylint: disable=too-many-instance-attributes  # its parts find 
         connection = session.connection
         connection.sessions.pop(session.identifier, None)
         self.sessions.pop(session.identifier, None)
-        if session.key:
-            connection.former_keys.keep(session.identifier, session.key)
+        if session.signer:
+            connection.former_keys.keep(session.identifier, session.signer)
         if connection.client and not any(it.is_ready for it in connection.sessions.values()):
             self._disconnect_client(connection, connection.client)
         elif connection.is_open and connection.client:

@@ -6,6 +6,7 @@ from typing import TYPE_CHECKING
 
 from smblease import Rules
 from smblease.serve.chance import Chance
+from smblease.serve.dialects import Dialects
 from smblease.serve.disk_bytes import LARGEST
 
 if TYPE_CHECKING:
@@ -25,3 +26,6 @@ class Settings:
     # the most bytes of a file
     limit: int = LARGEST
     chance: Chance = Chance()
+    dialects: Dialects = Dialects()
+    # whether what isn't encrypted is refused
+    encrypts: bool = False
