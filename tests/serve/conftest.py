@@ -10,8 +10,11 @@ import pytest
 
 from smblease.serve.server_process import ServerProcess
 from tests import needs
+from tests.serve.modern import EVERY, Modern
+from tests.serve.negotiating import Asking
 
 if TYPE_CHECKING:
+    from tests.serve.modern_client import ModernClient
     from tests.serve.wire_client import WireClient
 
 Start = Callable[..., ServerProcess]
@@ -62,6 +65,26 @@ def connect() -> Iterator[Connect]:
 
     def connected(server: ServerProcess, guid: bytes | None = None, user: str = "guest", password: str = "guest") -> WireClient:
         clients.append(WireClient(replace(server.place, user=user, password=password), guid))
+        return clients[-1]
+    yield connected
+    for client in clients:
+        client.close()
+
+
+@pytest.fixture(scope="module")
+def every(start_for_all: Start) -> ServerProcess:
+    """A server that speaks all dialects, to a user and to guests."""
+    return start_for_all(*EVERY, "--guests")
+
+
+@pytest.fixture
+def modern() -> Iterator[Modern]:
+    """Connects a client that makes each message by itself; it hasn't negotiated."""
+    from tests.serve.modern_client import ModernClient  # pylint: disable=import-outside-toplevel
+    clients: list[ModernClient] = []
+
+    def connected(server: ServerProcess, asking: Asking = Asking()) -> ModernClient:
+        clients.append(ModernClient(server.place, asking))
         return clients[-1]
     yield connected
     for client in clients:

@@ -23,6 +23,7 @@ PLACE = ["--port", "0", "--share", "s"]
 # Python with the standard library alone: no folder of packages is looked into.
 BARE = (sys.executable, "-I", "-S")
 NO_IMPACKET = "serve/run: impacket is missing, which --user needs: tools/setup installs it\n"
+NO_CRYPTOGRAPHY = "serve/run: cryptography is missing, which --max 3.1.1 needs: tools/setup installs it\n"
 ODD = (sys.executable, str(TOP / "tests/serve/odd_servers.py"))
 
 
@@ -53,6 +54,13 @@ def wait_for_end(server: ServerProcess) -> None:
     pytest.param([*PLACE, "--log", "/nowhere/log"], 1, "serve/run: /nowhere/log", id="--log"),
     pytest.param([*PLACE, "--seed", "-1"], 2, "serve/run: --seed", id="--seed"),
     pytest.param([*PLACE, "--limit", "0"], 2, "serve/run: --limit", id="--limit"),
+    pytest.param([*PLACE, "--max", "4"], 2, "serve/run: --max is one of 2.0.2, ", id="--max"),
+    pytest.param([*PLACE, "--min", "SMB4", "--max", "3.0"], 2, "serve/run: --min is one of", id="--min"),
+    pytest.param([*PLACE, "--min", "3.0"], 2, "serve/run: --min 3.0 is above --max 2.1\n", id="--min above --max"),
+    pytest.param([*PLACE, "--max", "2.0.2"], 2, "serve/run: --min 2.1 is above --max 2.0.2\n", id="--max below --min"),
+    pytest.param([*PLACE, "--encrypt", "--max", "3.0"], 2, "serve/run: --encrypt goes with --user", id="--encrypt of guests"),
+    pytest.param([*PLACE, "--encrypt", "--max", "3.0", "--user", "u%p", "--guests"], 2, "serve/run: --encrypt goes with --user",
+                 id="--encrypt and guests"),
     pytest.param([*PLACE, "--writable"], 2, "serve/run: --writable", id="--writable"),
     pytest.param([*PLACE, "--break-timer", "0"], 2, "serve/run: timers", id="--break-timer"),
     pytest.param([*PLACE, "--session-timer", "0"], 2, "serve/run: timers", id="--session-timer"),
@@ -83,6 +91,20 @@ def test_a_user_without_impacket(program: str) -> None:
     assert subprocess.run([*BARE, "-c", "import impacket"], capture_output=True, check=False).returncode == 1
     done = run(program, *PLACE, "--user", "u%p", interpreter=BARE)
     assert (done.returncode, done.stdout, done.stderr) == (1, "", NO_IMPACKET)
+
+
+def test_dialects_of_3_without_cryptography(program: str) -> None:
+    """There is none, and a line says so."""
+    assert subprocess.run([*BARE, "-c", "import cryptography"], capture_output=True, check=False).returncode == 1
+    done = run(program, *PLACE, "--max", "3.1.1", interpreter=BARE)
+    assert (done.returncode, done.stdout, done.stderr) == (1, "", NO_CRYPTOGRAPHY)
+
+
+@needs.package("impacket")
+@needs.package("cryptography")
+def test_encryption_without_a_dialect_of_3(program: str) -> None:
+    done = run(program, *PLACE, "--user", "u%p", "--encrypt")
+    assert (done.returncode, done.stderr) == (2, "serve/run: --encrypt goes with a --max of 3.0 or more\n")
 
 
 @needs.package("impacket")
