@@ -24,6 +24,9 @@ TORTURED = ["smb2.lease.request", "smb2.lease.upgrade", "smb2.lease.upgrade2", "
 OF_A_USER = ["smb2.durable-open.reopen1a", "smb2.durable-open.reopen1a-lease", "smb2.session.reauth1", "smb2.session.reauth2",
              "smb2.session.reauth3", "smb2.session.reauth6", "smb2.session.bind_negative_smb210s",
              "smb2.session.bind_negative_smb210d"]
+AT_3 = ["smb2.connect", "smb2.tcon", "smb2.read.eof", "smb2.lease.upgrade3", "smb2.lease.breaking3", "smb2.lease.oplock",
+        "smb2.durable-open.reopen2-lease", "smb2.compound.related1", "smb2.session.reauth6", "smb2.session.two_logoff",
+        "smb2.session.bind_negative_smb3to2s", "smb2.credits.single_req_credits_granted"]
 USER = "somebody%secret"
 
 
@@ -60,6 +63,16 @@ def test_smbtorture(program: str, name: str, words: list[str], interpreter: tupl
 def test_smbtorture_of_a_user(program: str, name: str, words: list[str]) -> None:
     """A session that is named by the next one of its user is over; one that authenticates again is the same."""
     row = run_test(name, lambda _: ServerProcess(program, None, ["--user", USER, *words], *USER.split("%")), 60.0)
+    assert row.kind is Kind.PASSED, row.text
+
+
+@needs.program("smbtorture")
+@needs.package("impacket")
+@needs.package("cryptography")
+@pytest.mark.parametrize("name", AT_3)
+def test_smbtorture_at_3_1_1(program: str, name: str) -> None:
+    words = ["--max", "3.1.1", "--user", USER, "--guests"]
+    row = run_test(name, lambda _: ServerProcess(program, None, words, *USER.split("%")), 60.0, "3.1.1")
     assert row.kind is Kind.PASSED, row.text
 
 

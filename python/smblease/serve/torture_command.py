@@ -15,6 +15,7 @@ from smblease.drive.commands import NOT_DRIVEN, SAFE, ended
 from smblease.drive.faults import DriveFault, Usage
 from smblease.drive.servers import PrivateServer
 from smblease.program import find_program
+from smblease.serve.dialects import DEFAULT, dialect_of, smbd_name
 from smblease.serve.run_command import RULES
 from smblease.serve.server_process import ServerProcess
 from smblease.serve.torture_suites import Kind, Row, read_rows, table
@@ -40,6 +41,7 @@ def parser() -> argparse.ArgumentParser:
     made.add_argument("--no-guests", action="store_true", help="with its user alone, so that all is signed")
     made.add_argument("--smbd", action="store_true", help="against a private smbd, for comparison; needs root")
     made.add_argument("--rules", default=RULES, metavar="RULES", help=f"with {served} --rules RULES ({RULES})")
+    made.add_argument("--max", default=DEFAULT, metavar="DIALECT", help=f"the dialect, which is served up to ({DEFAULT})")
     made.add_argument("--limit", type=float, default=150.0, metavar="S", help="seconds that a test may take (150)")
     made.add_argument("--jobs", type=int, default=2, metavar="N", help="how many at a time (2)")
     made.add_argument("--record", metavar="PREFIX", help="keep the records as PREFIX followed by the test's name")
@@ -72,12 +74,12 @@ def _ran(words: list[str], limit: float) -> subprocess.CompletedProcess[str]:
         raise DriveFault(f"smbtorture: {fault.strerror} ({where_from('samba-testsuite')})") from None
 
 
-def run_test(name: str, server: Callable[[str], ServerProcess | PrivateServer], limit: float) -> Row:
+def run_test(name: str, server: Callable[[str], ServerProcess | PrivateServer], limit: float, dialect: str = DEFAULT) -> Row:
     begun = time.monotonic()
     with closing(server(name)) as target:
         place = target.place
         words = ["smbtorture", f"//{place.host}/{place.share}", "-p", str(place.port), "-U", f"{place.user}%{place.password}",
-                 "-m", "SMB2_10", name]
+                 "-m", smbd_name(dialect_of("--max", dialect)), name]
         try:
             output = _ran(words, limit)
             kind, why = _outcome(output.stdout + output.stderr, output.returncode)
@@ -107,7 +109,7 @@ def run_tests(tests: Sequence[str], server: Callable[[str], ServerProcess | Priv
     rows: list[Row] = []
     with ThreadPoolExecutor(arguments.jobs) as pool:
         try:
-            for row in pool.map(lambda name: run_test(name, server, arguments.limit), tests):
+            for row in pool.map(lambda name: run_test(name, server, arguments.limit, arguments.max), tests):
                 rows.append(row)
                 print(row.text, flush=True)
         except BaseException:
@@ -129,12 +131,14 @@ def run_on_smbd(tests: Sequence[str], arguments: argparse.Namespace) -> list[Row
 def run_on_served(tests: Sequence[str], arguments: argparse.Namespace) -> list[Row]:
     def server(name: str) -> ServerProcess:
         record = f"{arguments.record}{name}" if arguments.record else None
-        words = ["--rules", arguments.rules, "--user", f"{USER}%{PASSWORD}", *([] if arguments.no_guests else ["--guests"])]
+        words = ["--rules", arguments.rules, "--user", f"{USER}%{PASSWORD}", *([] if arguments.no_guests else ["--guests"]),
+                 "--max", arguments.max]
         return ServerProcess(arguments.leasecheck, record, words, USER, PASSWORD)
     return run_tests(tests, server, arguments)
 
 
 def torture(arguments: argparse.Namespace) -> int:
+    dialect_of("--max", arguments.max)
     if arguments.jobs < 1:
         raise Usage("--jobs is at least 1")
     if arguments.all and arguments.name:
