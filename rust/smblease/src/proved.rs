@@ -35,6 +35,7 @@
 
 pub mod break_timers;
 pub mod capture_wire;
+pub mod client_versions;
 pub mod kept_opens;
 pub mod lease_client;
 pub mod lease_facts;
