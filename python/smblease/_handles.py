@@ -1,13 +1,14 @@
 """What client and server machines have in common: a handle, which is freed once, and a lock."""
 from __future__ import annotations
 
+import contextlib
 import ctypes
 import enum
 import threading
 import weakref
 from functools import partial
 from types import TracebackType
-from typing import Any, Callable, Generic, List, Optional, Tuple, Type, TypeVar
+from typing import Any, Callable, Generic, Iterator, List, Optional, Tuple, Type, TypeVar
 
 from smblease.faults import MachineLost
 
@@ -72,6 +73,13 @@ class Handle(Generic[Struct]):
         """What the last call gave out, by index."""
         handle = ctypes.byref(self._handle)
         return [with_bytes(partial(at, handle, index), kind(), self._name) for index in range(count(handle))]
+
+    @contextlib.contextmanager
+    def _used(self) -> Iterator[Any]:
+        """For a call of another handle, while no other thread calls this one."""
+        with self._lock:
+            self._check_open()
+            yield ctypes.byref(self._handle)
 
     @property
     def closed(self) -> bool:

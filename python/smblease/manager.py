@@ -5,10 +5,9 @@ decisions, which the host carries out in their order, one after the other: inclu
 """
 from __future__ import annotations
 
-import contextlib
 import ctypes
 import uuid
-from typing import Any, Callable, Dict, Iterator, Optional, Sequence, Tuple
+from typing import Callable, Dict, Optional, Sequence, Tuple
 
 from smblease import _structs as structs
 from smblease._arguments import LONG, are_longs, key_field, longs, number
@@ -107,17 +106,6 @@ class Manager(ManagerQuestions, ManagerListings):
             return self._requested(call, client, tag, file_id, *more)
         names = number(client, LONG, "client"), number(tag, LONG, "tag"), number(file_id, LONG, "file_id")
         return self._requested(call, *names, *more)
-
-    @contextlib.contextmanager
-    def used(self) -> Iterator[Any]:
-        """Its handle, for another function of the library, while no other thread calls it (own).
-
-        >>> with Manager(Rules.of("by-key,whole")).used() as handle:
-        ...     handle is not None
-        True
-        """
-        with self._lock:
-            yield self._reference
 
     def join(self, client: int) -> None:
         """A client connects (3.3.5.1), which decides nothing.

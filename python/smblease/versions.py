@@ -22,7 +22,11 @@ from smblease.values import Status
 @dataclass(frozen=True)
 class VersionsAsk:
     """What becomes of a create by its contexts: the manager is to be asked for `ask`; or it is refused with an NTSTATUS; or it is
-    the replay of a create that made the open of this FileId, which is answered again."""
+    the replay of a create that made the open of this FileId, which is answered again.
+
+    >>> VersionsAsk(status=0xC000022A).again is None
+    True
+    """
 
     ask: Optional[CreateAsk] = None
     status: Optional[int] = None
@@ -34,17 +38,19 @@ class Versions(Handle[structs.Versions]):
 
     Where MemoryError is raised nothing has changed, and the call may be made again.
 
-    >>> from smblease import Access, Rules, Share
-    >>> key = bytes(range(16))
-    >>> lease = key + bytes([7, 0, 0, 0]) + bytes(28) + bytes([4, 0, 0, 0])
-    >>> contexts = bytes.fromhex("0000000010000400000018003400000052714c7300000000") + lease
+    >>> from smblease import Access, Context, Rules, Share, append_context
+    >>> lease = bytes(range(16)) + bytes([7]) + bytes(31) + bytes([4, 0, 0, 0])
+    >>> contexts = append_context(b"", Context(b"RqLs", lease))
     >>> with Manager(Rules.of("by-key,whole")) as manager, Versions(manager) as versions:
-    ...     manager.join(1)
+    ...     for client in (1, 2):
+    ...         manager.join(client)
     ...     asked = versions.asked(1, 10, contexts)
-    ...     [opened] = manager.create(1, 10, 5, Access.READ, Share.READ, asked.ask)
+    ...     [opened] = manager.create(1, 10, 5, Access.READ, Share.READ_WRITE, asked.ask)
     ...     answer = versions.follow(0)
-    >>> str(asked.ask.state), len(answer), answer[72]
-    ('RWH', 76, 5)
+    ...     breaks, waits = manager.create(2, 20, 5, Access.READ, Share.READ_WRITE)
+    ...     notification = versions.follow(0)
+    >>> len(answer), answer[72], str(breaks.notification.new), notification[2]
+    (76, 5, 'RH', 6)
     """
 
     def __init__(self, manager: Manager) -> None:
@@ -58,8 +64,9 @@ class Versions(Handle[structs.Versions]):
         """A create of the client comes under the tag with these create contexts (2.2.13.2), of either version; `replay` where
         its header has SMB2_FLAGS_REPLAY_OPERATION. Contexts that can't be read are refused with STATUS_INVALID_PARAMETER.
 
+        >>> from smblease import Rules
         >>> Versions(Manager(Rules.of("by-key,whole"))).asked(1, 10, b"").ask
-        CreateAsk(key=None, state=LeaseState.NONE, durable=False, reconnect=None, has_other_lease=False)
+        CreateAsk(key=None, state=<LeaseState none>, durable=False, reconnect=None, has_other_lease=False)
         """
         text, out = octets(contexts), structs.VersionsAsk()
         names = number(client, LONG, "client"), number(tag, LONG, "tag")
@@ -75,6 +82,7 @@ class Versions(Handle[structs.Versions]):
     def closing(self, client: int, tag: int, file_id: int) -> None:
         """A close of the client's open comes under the tag.
 
+        >>> from smblease import Rules
         >>> Versions(Manager(Rules.of("by-key,whole"))).closing(1, 11, 1)
         """
         names = number(client, LONG, "client"), number(tag, LONG, "tag"), number(file_id, LONG, "file_id")
@@ -84,6 +92,7 @@ class Versions(Handle[structs.Versions]):
     def forget(self, client: int) -> None:
         """The client's connection was cut: what it asked and has no answer is forgotten.
 
+        >>> from smblease import Rules
         >>> Versions(Manager(Rules.of("by-key,whole"))).forget(1)
         """
         with self._lock:
@@ -92,6 +101,7 @@ class Versions(Handle[structs.Versions]):
     def leave(self, client: int, tags: Sequence[int]) -> None:
         """The client left what it asked under these tags, or the host refused it without asking the manager.
 
+        >>> from smblease import Rules
         >>> Versions(Manager(Rules.of("by-key,whole"))).leave(1, [10, 11])
         """
         given = longs(tags, "tag")
@@ -102,12 +112,14 @@ class Versions(Handle[structs.Versions]):
         """Follows the decision at this index of the manager's last call; each is followed once, in their order. Gives the create
         contexts of an answer, in which DH2Q has this timeout in milliseconds, the notification of a break, or no bytes.
 
+        >>> from smblease import Rules
         >>> Versions(Manager(Rules.of("by-key,whole"))).follow(0)
         Traceback (most recent call last):
         ValueError: a number stands for nothing of the versions
         """
         out = structs.VersionsMessage()
         arguments = number(index, LONG, "index"), number(timeout, WORD, "timeout"), ctypes.byref(out)
-        with self._lock, self._manager.used() as manager:
+        # pylint: disable-next=protected-access  # (of a handle, by another one)
+        with self._lock, self._manager._used() as manager:
             self._check(library.smblease_versions_follow(self._reference, manager, *arguments))
         return bytes(out.bytes[:out.length])

@@ -11,7 +11,8 @@ import pytest
 
 from smblease import (Access, AcknowledgeDone, AcknowledgeFailed, AcknowledgeRequest, Acknowledgment, Break, Client, Closed,
                       Context, CreateAnswer, CreateAsk, CreateRequest, Extent, Fault, LeaseState, Manager, Notification, Quiet,
-                      ReadRequest, Response, Rules, Server, Share, Status, WriteDone, WriteRequest, append_context, each_context)
+                      ReadRequest, Response, Rules, Server, Share, Status, Versions, WriteDone, WriteRequest, append_context,
+                      each_context)
 
 GUID = uuid.UUID(int=1)
 RW, RH = LeaseState.of("RW"), LeaseState.of("RH")
@@ -21,6 +22,7 @@ CLIENT, SERVER, MANAGER = Client(GUID, 1), Server([b"abc"]), Manager(Rules())
 client: Any = CLIENT
 server: Any = SERVER
 manager: Any = MANAGER
+versions: Any = Versions(MANAGER)
 any_client: Any = Client
 any_server: Any = Server
 any_manager: Any = Manager
@@ -102,6 +104,9 @@ HALF = bytes((0, 0, 0, 0, 24, 0, 4)) + bytes(17) + b"DHnQ" + bytes(4)
     refused("an extent of 3", lambda: manager.give_up(1, None, 1, 3), word="Extent"),
     refused("an extent of 0 that is asked about", lambda: manager.given_up(1, None, 1, 0), word="Extent"),
     refused("a manager's key as bytes", lambda: manager.expire(1, bytes(16)), TypeError, "uuid.UUID"),
+    refused("tag 2^64 of a create of version 2", lambda: versions.asked(1, LONG, b""), word="tag"),
+    refused("contexts that are a number", lambda: versions.asked(1, 1, 16), TypeError),
+    refused("a timeout of 33 bits", lambda: versions.follow(0, 1 << 32), word="timeout"),
     refused("a FileId of 65 bits in contexts", lambda: CreateAsk(reconnect=LONG).write(), word="reconnect"),
     refused("a name of 65,513 bytes", lambda: append_context(DURABLE, Context(bytes(65513), b"")), word="doesn't fit"),
     refused("a key as bytes in contexts", lambda: any_answer(bytes(16), RH).write(), TypeError, "UUID"),
@@ -148,21 +153,25 @@ MANAGER_CALLS: dict[str, tuple[Any, ...]] = {
     "give_up": (1, None, 1, Extent.ALL), "given_up": (1, None, 1, Extent.ALL), "may_read": (1, 1), "may_write": (1, 1),
     "__enter__": (),
 }
+VERSIONS_CALLS: dict[str, tuple[Any, ...]] = {
+    "asked": (1, 10, b""), "closing": (1, 11, 1), "forget": (1,), "leave": (1, [10]), "follow": (0,), "__enter__": (),
+}
 # (these ask nothing of the machine)
 FREE = {"close", "closed", "key"}
 
 
 def closed(kind: str) -> Any:
     made: dict[str, Callable[[], Any]] = {"client": lambda: Client(GUID, 1), "server": lambda: Server([b"abc"]),
-                                          "manager": lambda: Manager(Rules())}
+                                          "manager": lambda: Manager(Rules()), "versions": lambda: Versions(Manager(Rules()))}
     machine = made[kind]()
     with machine:
         pass
     return machine
 
 
-CLOSED_CALLS = [pytest.param(kind, method, arguments, id=f"{kind}-{method}") for kind, calls in (("client", CLIENT_CALLS),
-                ("server", SERVER_CALLS), ("manager", MANAGER_CALLS)) for method, arguments in calls.items()]
+ALL_CALLS = {"client": CLIENT_CALLS, "server": SERVER_CALLS, "manager": MANAGER_CALLS, "versions": VERSIONS_CALLS}
+CLOSED_CALLS = [pytest.param(kind, method, arguments, id=f"{kind}-{method}") for kind, calls in ALL_CALLS.items()
+                for method, arguments in calls.items()]
 
 
 @pytest.mark.parametrize("kind, method, arguments", CLOSED_CALLS)
@@ -173,13 +182,14 @@ def test_a_call_of_a_closed_machine(kind: str, method: str, arguments: tuple[Any
 
 @pytest.mark.parametrize("machine, calls", [pytest.param(Client, CLIENT_CALLS, id="client"),
                                             pytest.param(Server, SERVER_CALLS, id="server"),
-                                            pytest.param(Manager, MANAGER_CALLS, id="manager")])
+                                            pytest.param(Manager, MANAGER_CALLS, id="manager"),
+                                            pytest.param(Versions, VERSIONS_CALLS, id="versions")])
 def test_each_method_of_a_closed_machine_is_tried(machine: type, calls: dict[str, tuple[Any, ...]]) -> None:
     public = {it for it, _ in inspect.getmembers(machine) if not it.startswith("_")} - FREE
     assert public == set(calls) - {"__enter__"}
 
 
-@pytest.mark.parametrize("kind", ["client", "server", "manager"])
+@pytest.mark.parametrize("kind", ALL_CALLS)
 def test_a_machine_is_closed_twice(kind: str) -> None:
     machine = closed(kind)
     machine.close()
