@@ -10,6 +10,8 @@ _CLIENT = POINTER(structs.Client)
 _SERVER = POINTER(structs.Server)
 _MANAGER = POINTER(structs.Manager)
 _VERSIONS = POINTER(structs.Versions)
+_CLIENT_VERSIONS = POINTER(structs.ClientVersions)
+_MESSAGE = POINTER(structs.VersionsMessage)
 _KEY = POINTER(structs.Key)
 
 Signature = Tuple[Any, Tuple[Any, ...]]
@@ -143,7 +145,16 @@ VERSIONS: Dict[str, Signature] = {
     "versions_closing": (c_uint32, (_VERSIONS, c_uint64, c_uint64, c_uint64)),
     "versions_forget": (c_uint32, (_VERSIONS, c_uint64)),
     "versions_leave": (c_uint32, (_VERSIONS, c_uint64, POINTER(c_uint64), c_size_t)),
-    "versions_follow": (c_uint32, (_VERSIONS, _MANAGER, c_size_t, c_uint32, POINTER(structs.VersionsMessage))),
+    "versions_follow": (c_uint32, (_VERSIONS, _MANAGER, c_size_t, c_uint32, _MESSAGE)),
 }
 
-FUNCTIONS: Dict[str, Signature] = {**CODEC, **STATES, **CLIENT, **SERVER, **MANAGER, **VERSIONS}
+CLIENT_VERSIONS: Dict[str, Signature] = {
+    "client_versions_new": (c_uint32, (_CLIENT_VERSIONS,)),
+    "client_versions_free": (None, (_CLIENT_VERSIONS,)),
+    "client_versions_ask": (c_uint32, (_CLIENT_VERSIONS, POINTER(structs.Guid), POINTER(structs.MaybeKey), *_BYTES, _MESSAGE)),
+    "client_versions_answered": (c_uint32, (_CLIENT_VERSIONS, c_uint8, c_uint64, POINTER(structs.Guid), *_BYTES, _MESSAGE)),
+    "client_versions_noticed": (c_uint32, (_CLIENT_VERSIONS, c_uint8, POINTER(structs.BreakMessage), _MESSAGE)),
+    "client_versions_closed": (c_uint32, (_CLIENT_VERSIONS, c_uint64)),
+}
+
+FUNCTIONS: Dict[str, Signature] = {**CODEC, **STATES, **CLIENT, **SERVER, **MANAGER, **VERSIONS, **CLIENT_VERSIONS}

@@ -142,3 +142,7 @@ class VersionsAsk(ctypes.Structure):
 
 class VersionsMessage(ctypes.Structure):
     _fields_ = [("bytes", c_uint8 * 204), ("length", c_uint32)]
+
+
+class ClientVersions(ctypes.Structure):
+    _fields_ = [("state", ctypes.c_void_p)]

@@ -20,6 +20,7 @@ SIZES = {"u8": 1, "u16": 2, "u32": 4, "u64": 8, "usize": 8, "*mut u8": 8}
 NAMES = {
     "ClientHandle": "smblease_client", "ServerHandle": "smblease_server", "FilesHandle": "smblease_files",
     "ManagerHandle": "smblease_manager", "VersionsHandle": "smblease_versions",
+    "ClientVersionsHandle": "smblease_client_versions",
     "ClientGuid": "smblease_guid", "KeyBytes": "smblease_key", "MaybeKey": "smblease_maybe_key",
     "BreakMessage": "smblease_break_message", "AckMessage": "smblease_ack_message",
     "ClientOpen": "smblease_open_terms", "ClientAnswer": "smblease_answer", "ClientRequest": "smblease_client_request",

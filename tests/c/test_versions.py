@@ -9,7 +9,10 @@ from tests.c import building
 from tests.c.building import Ended, run
 
 
-@pytest.mark.parametrize("source", ["examples/c/epochs.c", "tests/c/versions.c"])
-def test_program(folder: Path, source: str) -> None:
-    wanted = {"examples/c/epochs.c": "client 1: granted 7, epoch 5\nclient 1: broken to 3, epoch 6\n", "tests/c/versions.c": ""}
-    assert run(building.program(folder, source)) == Ended(0, wanted[source])
+EPOCHS = "client 1: granted 7, epoch 5\nclient 1: broken to 3, epoch 6\n"
+
+
+@pytest.mark.parametrize("source, wanted", [("examples/c/epochs.c", EPOCHS), ("tests/c/versions.c", ""),
+                                            ("tests/c/client_versions.c", "")])
+def test_program(folder: Path, source: str, wanted: str) -> None:
+    assert run(building.program(folder, source)) == Ended(0, wanted)

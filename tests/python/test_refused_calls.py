@@ -9,10 +9,10 @@ from typing import Any
 
 import pytest
 
-from smblease import (Access, AcknowledgeDone, AcknowledgeFailed, AcknowledgeRequest, Acknowledgment, Break, Client, Closed,
-                      Context, CreateAnswer, CreateAsk, CreateRequest, Extent, Fault, LeaseState, Manager, Notification, Quiet,
-                      ReadRequest, Response, Rules, Server, Share, Status, Versions, WriteDone, WriteRequest, append_context,
-                      each_context)
+from smblease import (Access, AcknowledgeDone, AcknowledgeFailed, AcknowledgeRequest, Acknowledgment, Break, Client, ClientVersions,
+                      Closed, Context, CreateAnswer, CreateAsk, CreateRequest, Extent, Fault, LeaseState, Manager, Notification,
+                      Quiet, ReadRequest, Response, Rules, Server, Share, Status, Versions, WriteDone, WriteRequest,
+                      append_context, each_context)
 
 GUID = uuid.UUID(int=1)
 RW, RH = LeaseState.of("RW"), LeaseState.of("RH")
@@ -23,6 +23,7 @@ client: Any = CLIENT
 server: Any = SERVER
 manager: Any = MANAGER
 versions: Any = Versions(MANAGER)
+client_versions: Any = ClientVersions()
 any_client: Any = Client
 any_server: Any = Server
 any_manager: Any = Manager
@@ -107,6 +108,15 @@ HALF = bytes((0, 0, 0, 0, 24, 0, 4)) + bytes(17) + b"DHnQ" + bytes(4)
     refused("tag 2^64 of a create of version 2", lambda: versions.asked(1, LONG, b""), word="tag"),
     refused("contexts that are a number", lambda: versions.asked(1, 1, 16), TypeError),
     refused("a timeout of 33 bits", lambda: versions.follow(0, 1 << 32), word="timeout"),
+    refused("contexts of a machine that are a number", lambda: client_versions.ask(16, GUID), TypeError),
+    refused("contexts of a machine that can't be read", lambda: client_versions.ask(bytes(5), GUID), word="can't be read"),
+    refused("a CreateGuid as bytes", lambda: client_versions.ask(b"", bytes(16)), TypeError, "UUID"),
+    refused("a parent as bytes", lambda: client_versions.ask(b"", GUID, bytes(16)), TypeError, "UUID"),
+    refused("an answered FileId of 65 bits", lambda: client_versions.answered(LONG, GUID, b""), word="file_id"),
+    refused("an answer that can't be read", lambda: client_versions.answered(1, GUID, bytes(5)), word="can't be read"),
+    refused("a notification of 0 in place of 44", lambda: client_versions.noticed(bytes(44)), word="can't be read"),
+    refused("a notification of 43 bytes that came", lambda: client_versions.noticed(b"\x2c" + bytes(42)), word="can't be read"),
+    refused("a FileId of 65 bits that a client closed", lambda: client_versions.forget(LONG), word="file_id"),
     refused("a FileId of 65 bits in contexts", lambda: CreateAsk(reconnect=LONG).write(), word="reconnect"),
     refused("a name of 65,513 bytes", lambda: append_context(DURABLE, Context(bytes(65513), b"")), word="doesn't fit"),
     refused("a key as bytes in contexts", lambda: any_answer(bytes(16), RH).write(), TypeError, "UUID"),
@@ -156,20 +166,25 @@ MANAGER_CALLS: dict[str, tuple[Any, ...]] = {
 VERSIONS_CALLS: dict[str, tuple[Any, ...]] = {
     "asked": (1, 10, b""), "closing": (1, 11, 1), "forget": (1,), "leave": (1, [10]), "follow": (0,), "__enter__": (),
 }
+CLIENT_VERSIONS_CALLS: dict[str, tuple[Any, ...]] = {
+    "ask": (b"", GUID), "answered": (1, GUID, b""), "noticed": (b"\x2c" + bytes(43),), "forget": (1,), "__enter__": (),
+}
 # (these ask nothing of the machine)
 FREE = {"close", "closed", "key"}
 
 
 def closed(kind: str) -> Any:
     made: dict[str, Callable[[], Any]] = {"client": lambda: Client(GUID, 1), "server": lambda: Server([b"abc"]),
-                                          "manager": lambda: Manager(Rules()), "versions": lambda: Versions(Manager(Rules()))}
+                                          "manager": lambda: Manager(Rules()), "versions": lambda: Versions(Manager(Rules())),
+                                          "client versions": ClientVersions}
     machine = made[kind]()
     with machine:
         pass
     return machine
 
 
-ALL_CALLS = {"client": CLIENT_CALLS, "server": SERVER_CALLS, "manager": MANAGER_CALLS, "versions": VERSIONS_CALLS}
+ALL_CALLS = {"client": CLIENT_CALLS, "server": SERVER_CALLS, "manager": MANAGER_CALLS, "versions": VERSIONS_CALLS,
+             "client versions": CLIENT_VERSIONS_CALLS}
 CLOSED_CALLS = [pytest.param(kind, method, arguments, id=f"{kind}-{method}") for kind, calls in ALL_CALLS.items()
                 for method, arguments in calls.items()]
 
@@ -183,7 +198,8 @@ def test_a_call_of_a_closed_machine(kind: str, method: str, arguments: tuple[Any
 @pytest.mark.parametrize("machine, calls", [pytest.param(Client, CLIENT_CALLS, id="client"),
                                             pytest.param(Server, SERVER_CALLS, id="server"),
                                             pytest.param(Manager, MANAGER_CALLS, id="manager"),
-                                            pytest.param(Versions, VERSIONS_CALLS, id="versions")])
+                                            pytest.param(Versions, VERSIONS_CALLS, id="versions"),
+                                            pytest.param(ClientVersions, CLIENT_VERSIONS_CALLS, id="client versions")])
 def test_each_method_of_a_closed_machine_is_tried(machine: type, calls: dict[str, tuple[Any, ...]]) -> None:
     public = {it for it, _ in inspect.getmembers(machine) if not it.startswith("_")} - FREE
     assert public == set(calls) - {"__enter__"}

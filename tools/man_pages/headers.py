@@ -7,7 +7,8 @@ from typing import Iterator, NamedTuple
 
 from man_pages.writing import TOP, prose
 
-HEADERS = ("smblease.h", "smblease_machines.h", "smblease_manager.h", "smblease_versions.h")
+HEADERS = ("smblease.h", "smblease_machines.h", "smblease_manager.h", "smblease_versions.h",
+           "smblease_client_versions.h")
 WIDTH = 76
 # What a header has for the compiler alone.
 GUARDS = re.compile(r'^(?:#(?:ifndef|ifdef|endif|include|define \w+_H$).*|extern "C" \{|\})\n', re.M)

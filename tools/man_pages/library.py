@@ -40,6 +40,9 @@ FAMILIES = {
     "smblease_versions_new": "make and free what is known of leases of version 2",
     "smblease_versions_asked": "tell what clients ask of a manager, for leases of version 2",
     "smblease_versions_follow": "what is sent for a manager's decision, for leases of version 2",
+    "smblease_client_versions_new": "make and free what a client knows of leases of version 2",
+    "smblease_client_versions_ask": "what a client sends, for leases of version 2",
+    "smblease_client_versions_answered": "what a client's machine takes, of leases of version 2",
 }
 # The comment on what is common to the structs of a header.
 COMMON = "/* In the structs below"

@@ -120,6 +120,33 @@ is_given notice (Some known) = is_taken known (noted notice)
 abbrev pub notice_given : EpochNotice → Layer → Option Notice
 notice_given notice layer = if is_given notice (layer.leases notice.notice.key) then Some notice.notice else None
 
+-- ---- over one connection, where messages come as they were sent
+
+-- what a message tells is known from then on, whatever was known before
+abbrev pub leases_told : LeaseView → Option SecondView → (List ℕ → Option Known) → List ℕ → Option Known
+leases_told lease None leases = leases
+leases_told lease (Some second) leases = put_known leases lease.key (Some (told_by lease second))
+
+abbrev pub leases_answered_in_order : Option LeaseView → (List ℕ → Option Known) → List ℕ → Option Known
+leases_answered_in_order None leases = leases
+leases_answered_in_order (Some lease) leases = leases_told lease lease.second leases
+
+abbrev pub answered_in_order : ℕ → List ℕ → CreateView → Layer → Layer
+answered_in_order file_id guid answer layer = record {
+  leases = leases_answered_in_order answer.lease layer.leases;
+  guids = guids_answered file_id guid answer.durable layer.guids;
+}
+
+-- NewEpoch 0 is that of a lease of version 1 where nothing is known of the key, as it is in any order
+abbrev pub leases_noticed_in_order : EpochNotice → Option Known → (List ℕ → Option Known) → List ℕ → Option Known
+leases_noticed_in_order notice None leases =
+    if notice.new_epoch == 0 then leases else put_known leases notice.notice.key (Some (noted notice))
+leases_noticed_in_order notice (Some known) leases = put_known leases notice.notice.key (Some (noted notice))
+
+abbrev pub noticed_in_order : EpochNotice → Layer → Layer
+noticed_in_order notice layer =
+    record layer { leases = leases_noticed_in_order notice (layer.leases notice.notice.key) layer.leases }
+
 -- ---- an open is closed
 
 abbrev pub closed : ℕ → Layer → Layer

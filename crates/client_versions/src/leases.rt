@@ -45,6 +45,16 @@ fn goes_down(before: LeaseState, now: LeaseState) -> bool
 }
 
 impl Known {
+    // What the lease context of an answer tells.
+    fn told_by(lease: LeaseAnswer, second: SecondVersion) -> Known
+        ensures { known_of result ≡ rows.told_by (lease_view_of lease) (second_of second) }
+    {
+        Known {
+            epoch: second.epoch,
+            state: lease.state,
+        }
+    }
+
     /// Whether what a message says is taken.
     pub fn takes(self, told: Known) -> bool
         ensures { result ≡ epochs.is_taken (known_of self) (known_of told) }
@@ -78,10 +88,7 @@ impl Known {
 fn known_by(lease: LeaseAnswer, second: SecondVersion, found: Option<Known>) -> Known
     ensures { known_of result ≡ rows.known_by (lease_view_of lease) (second_of second) (option_map known_of found) }
 {
-    let told = Known {
-        epoch: second.epoch,
-        state: lease.state,
-    };
+    let told = Known::told_by(lease, second);
     if lease.breaking {
         Known::in_break(found, told)
     } else {
@@ -155,6 +162,26 @@ impl Leases {
         };
         let known = known_by(lease, second, self.known(lease.key));
         self.put(lease.key, known)
+    }
+
+    /// A create is answered with this lease, after all that was sent before (own).
+    ///
+    /// # Errors
+    ///
+    /// `Memory` where nothing was known of it, and no memory is left; nothing has changed then.
+    pub fn answered_in_order(&mut self, lease: Option<LeaseAnswer>) -> Result<(), Memory>
+        ensures answered { OnOk result (leases_of self.new
+            ≡ rows.leases_answered_in_order (option_map lease_view_of lease) (leases_of self.old)) }
+        ensures refused { OnErr result (leases_of self.new ≡ leases_of self.old) }
+        ensures free { rows.is_news (option_map lease_view_of lease) (leases_of self.old) ≡ false → IsOk result }
+    {
+        let Some(lease) = lease else {
+            return Ok(());
+        };
+        let Some(second) = lease.second else {
+            return Ok(());
+        };
+        self.put(lease.key, Known::told_by(lease, second))
     }
 
     /// The lease that the machine is given for an answer, before that is taken.

@@ -113,6 +113,25 @@ fn what_comes_in_order_is_given(rt: HostRuntime) -> Result<(), Fail> {
     Ok(())
 }
 
+// A server may begin a lease anew, below the epochs that it told before.
+#[test]
+fn over_one_connection_all_is_given(rt: HostRuntime) -> Result<(), Fail> {
+    let mut versions = ClientVersions::new(rt.alloc());
+    assert_eq!(rt; versions.noticed_in_order(&notice(0, 3))?, notification(3));
+    assert_eq!(rt; ask(&versions), asked_with(0));
+    assert_eq!(rt; versions.noticed_in_order(&notice(9, 3))?, notification(3));
+    let granted = answer_with(6, 7, false);
+    assert_eq!(rt;
+        versions.answered_in_order(FileId(1), GUID, &granted)?,
+        given(7, false)
+    );
+    assert_eq!(rt; ask(&versions), asked_with(6));
+    assert_eq!(rt; versions.noticed_in_order(&notice(5, 3))?, notification(3));
+    assert_eq!(rt; versions.noticed(&notice(4, 1))?, None);
+    assert_eq!(rt; ask(&versions), asked_with(5));
+    Ok(())
+}
+
 #[test]
 fn a_late_answer_gives_the_newest_state(rt: HostRuntime) -> Result<(), Fail> {
     let mut versions = ClientVersions::new(rt.alloc());

@@ -3,7 +3,8 @@ ghost use Rattle.std.specs.Option.{option_map};
 ghost use Rattle.lease_wire.specs.Create as first;
 ghost use Rattle.lease_wire.specs.Notification.{notice_of};
 ghost use Rattle.lease_wire_v2.specs.EpochNotice.{epoch_notice_of};
-ghost use Rattle.lease_wire_v2.specs.Views.{answer_of, ask_of, asked_durable, asked_lease, lease_view_of, reconnect_view};
+ghost use Rattle.lease_wire_v2.specs.Views.{answer_of, ask_of, asked_durable, asked_lease, lease_view_of, plain_of};
+ghost use Rattle.lease_wire_v2.specs.Views.{reconnect_view};
 ghost use Rattle.client_versions.specs.Kept.{guids_of, key_bytes, layer_of, leases_of};
 ghost use Rattle.client_versions.specs.Layer as layer;
 ghost use Rattle.client_versions.specs.Rows as rows;
@@ -37,6 +38,20 @@ fn asked_durable(ask: &CreateAsk, guid: Guid) -> Option<DurableAsk>
         persistent: false,
         create_guid: guid,
     }))
+}
+
+// The answer without what version 2 adds.
+fn plain(answer: &CreateAnswerV2) -> CreateAnswer
+    ensures { first.answer_of result ≡ plain_of (answer_of answer.now) }
+{
+    let lease = match answer.lease {
+        Some(lease) => Some((lease.key, lease.state, lease.breaking)),
+        None => None,
+    };
+    CreateAnswer {
+        lease,
+        durable: answer.durable.is_some(),
+    }
 }
 
 impl ClientVersions {
@@ -127,6 +142,63 @@ impl ClientVersions {
                 Ok(Some(notification))
             }
         }
+    }
+
+    /// As [`ClientVersions::answered`], where every message comes over one connection, after all that was sent before it: the
+    /// machine is given the answer as it was sent, whatever its epoch is, and that and the state are known from then on (own).
+    ///
+    /// # Errors
+    ///
+    /// As those of [`ClientVersions::answered`].
+    pub fn answered_in_order(
+        &mut self,
+        file_id: FileId,
+        guid: Guid,
+        answer: &CreateAnswerV2,
+    ) -> Result<CreateAnswer, Memory>
+        ensures given { IfOk result (λ given. first.answer_of given ≡ plain_of (answer_of answer.now)) }
+        ensures answered { OnOk result (layer_of self.new
+            ≡ rows.answered_in_order file_id.0 guid.0 (answer_of answer.now) (layer_of self.old)) }
+        ensures refused { OnErr result (layer_of self.new ≡ layer_of self.old) }
+        ensures free { rows.answer_takes_memory (answer_of answer.now) (layer_of self.old) ≡ false → IsOk result }
+    {
+        let before = self.guids.guid(file_id);
+        self.guids.answered(file_id, guid, answer.durable)?;
+        match self.leases.answered_in_order(answer.lease) {
+            Ok(()) => Ok(plain(answer)),
+            Err(refused) => {
+                self.guids.set_back(file_id, before);
+                Err(refused)
+            }
+        }
+    }
+
+    /// As [`ClientVersions::noticed`], where every message comes over one connection, after all that was sent before it: the
+    /// machine is given the notice as it was sent, whatever its epoch is, and that and the state are known from then on; but
+    /// NewEpoch 0 of a key that nothing is known of is that of a lease of version 1, of which nothing is kept (own).
+    ///
+    /// # Errors
+    ///
+    /// As those of [`ClientVersions::noticed`].
+    pub fn noticed_in_order(&mut self, notice: &NotificationV2) -> Result<Notification, Memory>
+        ensures given { IfOk result (λ given. notice_of given ≡ (epoch_notice_of notice.now).notice) }
+        ensures noticed { OnOk result (layer_of self.new
+            ≡ rows.noticed_in_order (epoch_notice_of notice.now) (layer_of self.old)) }
+        ensures refused { OnErr result (layer_of self.new ≡ layer_of self.old) }
+        ensures free { rows.notice_takes_memory (epoch_notice_of notice.now)
+            ((layer_of self.old).leases (epoch_notice_of notice.now).notice.key) ≡ false → IsOk result }
+    {
+        let notification = notice.notification;
+        let key = notification.key;
+        let told = Known {
+            epoch: notice.new_epoch,
+            state: notification.new,
+        };
+        if told.epoch == 0 && self.leases.known(key).is_none() {
+            return Ok(notification);
+        }
+        self.leases.put(key, told)?;
+        Ok(notification)
     }
 
     /// The open of this FileId is closed, or its machine has given it up: its CreateGuid is forgotten.

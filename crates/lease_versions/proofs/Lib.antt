@@ -1,3 +1,4 @@
 pub mod Living
 pub mod Scans
+pub mod Staying
 pub mod Tables

@@ -1,14 +1,16 @@
 -- What holds of epochs, versions and parents over any decisions.
 use Rattle.std.specs.Prelude.{◌≡◌, ◌≢◌, ◌<◌, ◌+◌, ◌%◌, ℕ, Bool, true, false, Option, Some, None, List, [], ◌∷◌, if◌then◌else◌}
-use Rattle.std.specs.Prelude.{◌&&◌, is_some}
+use Rattle.std.specs.Prelude.{◌&&◌, bytes_eq, is_some}
 use Rattle.std.specs.Option.{option_map}
 use Rattle.lease_state.specs.State.{State}
-use Rattle.lease_model.specs.messages.Replies.{BreakNotice, LeaseGiven}
+use Rattle.lease_state.specs.declared.status.Status.{Status}
+use Rattle.lease_model.specs.messages.Replies.{BreakNotice, CreateAnswer, LeaseGiven}
 use Rattle.lease_model.specs.server.Naming.{key_of}
 use Rattle.lease_model.specs.values.Keys.{Key, key_eq}
 use Rattle.lease_wire_v2.specs.Names.{SecondView}
 use Rattle.manager_model.specs.Decisions.{Decision}
 use Rattle.lease_versions.specs.Layer.{Layer, Lease}
+use Rattle.lease_versions.specs.Refusals.{reconnect_refusal}
 use Rattle.lease_versions.specs.Rows.{Carried, carried, create_in, epoch_of, followed, followed_all, is_news, raised}
 
 -- ---- a lease while it lives
@@ -64,6 +66,21 @@ second_carried Carried.Nothing = None
 second_carried (Carried.Answer second durable) = second
 second_carried (Carried.Notice epoch) = None
 
+-- ---- an open while it is there
+
+abbrev pub is_there : ℕ → Layer → Bool
+is_there file_id layer = is_some (layer.opens file_id)
+
+-- the open of the FileId is there before, between and after the decisions
+abbrev pub StaysOpen : ℕ → List Decision → Layer → Type 0
+StaysOpen file_id [] layer = is_there file_id layer ≡ true
+StaysOpen file_id (decision ∷ decisions) layer =
+    (is_there file_id layer ≡ true) × StaysOpen file_id decisions (followed decision layer)
+
+-- what a DH2C under this guid is refused as then
+abbrev pub refused_after : List ℕ → ℕ → List Decision → Layer → Option Status
+refused_after guid file_id decisions layer = reconnect_refusal guid ((followed_all decisions layer).opens file_id)
+
 -- ---- the laws
 
 -- The epoch of a lease rises exactly there, by one; it stays with every other decision.
@@ -118,3 +135,17 @@ abbrev pub NoticeCarriesTheEpoch : Type 0
 NoticeCarriesTheEpoch = (client : ℕ) (notice : BreakNotice) (layer : Layer)
     → carried (Decision.Breaks client notice) layer
     ≡ Carried.Notice (epoch_of ((followed (Decision.Breaks client notice) layer).leases (key_of client notice.key)))
+
+-- An open keeps its client, its key and its CreateGuid.
+abbrev pub OpensStay : Type 0
+OpensStay = (file_id : ℕ) (decisions : List Decision) (layer : Layer) → StaysOpen file_id decisions layer
+    → (followed_all decisions layer).opens file_id ≡ layer.opens file_id
+
+-- So a DH2C under the CreateGuid of its create isn't refused while the open is there, and under any other it is.
+abbrev pub ReconnectsNeedTheGuid : Type 0
+ReconnectsNeedTheGuid = (client tag file_id : ℕ) (answer : CreateAnswer) (guid other : List ℕ) (decisions : List Decision)
+    (layer : Layer) → is_there file_id layer ≡ false → answer.durable ≡ true
+    → (create_in (layer.asked client tag)).guid ≡ Some guid
+    → StaysOpen file_id decisions (followed (Decision.Opened client tag file_id answer) layer)
+    → refused_after other file_id decisions (followed (Decision.Opened client tag file_id answer) layer)
+    ≡ (if bytes_eq guid other then None else Some Status.ObjectNameNotFound)

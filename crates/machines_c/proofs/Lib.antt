@@ -1,4 +1,6 @@
+pub mod Answered
 pub mod ClientHandles
+pub mod ClientVersionsHandles
 pub mod FilesHandles
 pub mod Held
 pub mod Holding

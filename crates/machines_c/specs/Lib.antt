@@ -3,4 +3,5 @@ pub mod client
 pub mod handles
 pub mod manager
 pub mod server
+pub mod translation
 pub mod versions

@@ -1,7 +1,8 @@
 //! The client machine, the server machine and the manager of leases for callers in C, and what leases of version 2
-//! carry: `include/smblease_machines.h`, `smblease_manager.h` and `smblease_versions.h` declare each function and
-//! struct of this crate, and say what a caller has to keep to. A handle is a struct of one pointer, null where it
-//! holds nothing. No function has a condition beyond those of its types.
+//! carry for each: `include/smblease_machines.h`, `smblease_manager.h`, `smblease_versions.h` and
+//! `smblease_client_versions.h` declare each function and struct of this crate, and say what a caller has to keep to. A
+//! handle is a struct of one pointer, null where it holds nothing. No function has a condition beyond those of its
+//! types.
 #![tactic(auto)]
 
 mod client;
@@ -9,6 +10,7 @@ mod handles;
 mod manager;
 mod server;
 mod threads;
+mod translation;
 mod values;
 mod versions;
 
@@ -27,6 +29,8 @@ pub use manager::values::{AckFields, CreateFields};
 pub use server::files::{Files, FilesHandle};
 pub use server::handle::{Hosted, ServerHandle};
 pub use server::out::ServerOut;
+pub use translation::handle::ClientVersionsHandle;
+pub use translation::translating::Translating;
 pub use values::{AckMessage, KeyBytes, MaybeKey};
 pub use versions::creates::AskedFields;
 pub use versions::following::Following;

@@ -2,6 +2,7 @@ use crate::client::handle::ClientHandle;
 use crate::manager::handle::ManagerHandle;
 use crate::server::files::FilesHandle;
 use crate::server::handle::ServerHandle;
+use crate::translation::handle::ClientVersionsHandle;
 use crate::versions::handle::VersionsHandle;
 
 // Whatever may go to another thread.
@@ -31,5 +32,10 @@ pub fn sent_manager(handle: ManagerHandle) -> ManagerHandle {
 
 /// The same handle. It is proved here that it may go to another thread.
 pub fn sent_versions(handle: VersionsHandle) -> VersionsHandle {
+    sent(handle)
+}
+
+/// The same handle. It is proved here that it may go to another thread.
+pub fn sent_client_versions(handle: ClientVersionsHandle) -> ClientVersionsHandle {
     sent(handle)
 }

@@ -1,5 +1,6 @@
 use Rattle.lease_versions.proofs.Living.{counts_rises, first_carries_zero, notices_differ, parent_stays, rises_there}
 use Rattle.lease_versions.proofs.Living.{answer_carries, begins_above, notice_carries}
+use Rattle.lease_versions.proofs.Staying.{opens_stay, reconnects_need_the_guid}
 use Rattle.lease_versions.proofs.laws.version_laws.Goals as goal
 
 pub returns-clause-rises : goal.returns-clause-rises
@@ -25,3 +26,9 @@ returns-clause-answer c = answer_carries
 
 pub returns-clause-notice : goal.returns-clause-notice
 returns-clause-notice c = notice_carries
+
+pub returns-clause-opens : goal.returns-clause-opens
+returns-clause-opens c = opens_stay
+
+pub returns-clause-guids : goal.returns-clause-guids
+returns-clause-guids c = reconnects_need_the_guid

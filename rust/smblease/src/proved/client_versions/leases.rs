@@ -30,6 +30,11 @@ fn goes_down(before: LeaseState, now: LeaseState) -> bool {
 }
 
 impl Known {
+    // What the lease context of an answer tells.
+    fn told_by(lease: LeaseAnswer, second: SecondVersion) -> Known {
+        Known { epoch: second.epoch, state: lease.state }
+    }
+
     /// Whether what a message says is taken.
     pub fn takes(self, told: Known) -> bool {
         is_newer(self.epoch, told.epoch) || (told.epoch == self.epoch && goes_down(self.state, told.state))
@@ -54,7 +59,7 @@ impl Known {
 
 // What the lease context of an answer leaves known.
 fn known_by(lease: LeaseAnswer, second: SecondVersion, found: Option<Known>) -> Known {
-    let told = Known { epoch: second.epoch, state: lease.state };
+    let told = Known::told_by(lease, second);
     if lease.breaking { Known::in_break(found, told) } else { Known::after(found, told) }
 }
 
@@ -107,6 +112,21 @@ impl Leases {
         };
         let known = known_by(lease, second, self.known(lease.key));
         self.put(lease.key, known)
+    }
+
+    /// A create is answered with this lease, after all that was sent before (own).
+    ///
+    /// # Errors
+    ///
+    /// `Memory` where nothing was known of it, and no memory is left; nothing has changed then.
+    pub fn answered_in_order(&mut self, lease: Option<LeaseAnswer>) -> Result<(), Memory> {
+        let Some(lease) = lease else {
+            return Ok(());
+        };
+        let Some(second) = lease.second else {
+            return Ok(());
+        };
+        self.put(lease.key, Known::told_by(lease, second))
     }
 
     /// The lease that the machine is given for an answer, before that is taken.

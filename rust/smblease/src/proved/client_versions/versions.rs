@@ -24,6 +24,15 @@ fn asked_durable(ask: &CreateAsk, guid: Guid) -> Option<DurableAsk> {
     Some(DurableAsk::Second(DurableRequestV2 { timeout: 0, persistent: false, create_guid: guid }))
 }
 
+// The answer without what version 2 adds.
+fn plain(answer: &CreateAnswerV2) -> CreateAnswer {
+    let lease = match answer.lease {
+        Some(lease) => Some((lease.key, lease.state, lease.breaking)),
+        None => None,
+    };
+    CreateAnswer { lease, durable: answer.durable.is_some() }
+}
+
 impl ClientVersions {
     /// Where nothing is known. Allocates nothing.
     pub fn new(alloc: Global) -> ClientVersions {
@@ -79,6 +88,42 @@ impl ClientVersions {
                 Ok(Some(notification))
             }
         }
+    }
+
+    /// As [`ClientVersions::answered`], where every message comes over one connection, after all that was sent before it: the
+    /// machine is given the answer as it was sent, whatever its epoch is, and that and the state are known from then on (own).
+    ///
+    /// # Errors
+    ///
+    /// As those of [`ClientVersions::answered`].
+    pub fn answered_in_order(&mut self, file_id: FileId, guid: Guid, answer: &CreateAnswerV2) -> Result<CreateAnswer, Memory> {
+        let before = self.guids.guid(file_id);
+        self.guids.answered(file_id, guid, answer.durable)?;
+        match self.leases.answered_in_order(answer.lease) {
+            Ok(()) => Ok(plain(answer)),
+            Err(refused) => {
+                self.guids.set_back(file_id, before);
+                Err(refused)
+            }
+        }
+    }
+
+    /// As [`ClientVersions::noticed`], where every message comes over one connection, after all that was sent before it: the
+    /// machine is given the notice as it was sent, whatever its epoch is, and that and the state are known from then on; but
+    /// NewEpoch 0 of a key that nothing is known of is that of a lease of version 1, of which nothing is kept (own).
+    ///
+    /// # Errors
+    ///
+    /// As those of [`ClientVersions::noticed`].
+    pub fn noticed_in_order(&mut self, notice: &NotificationV2) -> Result<Notification, Memory> {
+        let notification = notice.notification;
+        let key = notification.key;
+        let told = Known { epoch: notice.new_epoch, state: notification.new };
+        if told.epoch == 0 && self.leases.known(key).is_none() {
+            return Ok(notification);
+        }
+        self.leases.put(key, told)?;
+        Ok(notification)
     }
 
     /// The open of this FileId is closed, or its machine has given it up: its CreateGuid is forgotten.
