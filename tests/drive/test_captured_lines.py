@@ -102,16 +102,25 @@ def test_what_it_holds(name: str) -> None:
     assert shown(name, "smb2.cmd == 5 && smb2.flags.response == 1 && smb2.lease.parent_lease_key", ["frame.number"])
 
 
+# StructureSize and NewEpoch of the breaks of v2_breaking3, and an epoch that is older
+CHAINED, OLDER = "2c001300", "2c001100"
+
+
+def chain_with_an_older_epoch() -> str:
+    """The third break of the chain has another epoch."""
+    first, second, third, rest = of_kept("smbtorture_v2_leases", []).split(CHAINED)
+    return CHAINED.join((first, second, third)) + OLDER + rest
+
+
 @SIDES
 def test_epochs(side: str, program: str) -> None:
-    """smbd sends the second and third break of v2_breaking3 with the epoch of the first, so that they don't follow on (3.3.4.7).
-    The second, from RH to R, changes nothing that the first rule speaks of, and may be passed over."""
+    """smbd sends the breaks of a chain with one epoch, of which nothing is said; one that is older doesn't follow on (3.3.4.7)."""
     name = "smbtorture_v2_leases"
     rows = shown(name, "smb2.cmd == 18 && smb2.lease.lease_oplock == 0x13", ["frame.number", "frame.time_relative"])
-    breaks = [f"packet {number} at {time}, epoch 19 follows 19" for number, time in rows]
-    said = [line.partition(": ")[2] for line in judged(program, of_kept(name, []), side).said if ", epoch " in line]
-    assert len(breaks) == 3
-    assert breaks[2] in said and set(said) <= set(breaks[1:])
+    assert len(rows) == 3
+    said = [[line.partition(": ")[2] for line in judged(program, lines, side).said if ", epoch " in line]
+            for lines in (of_kept(name, []), chain_with_an_older_epoch())]
+    assert said == [[], ["packet {} at {}, epoch 17 follows 19".format(*rows[2])]]
 
 
 def kind_of(line: str) -> str:
@@ -126,7 +135,7 @@ def kind_of(line: str) -> str:
 @SIDES
 def test_the_order_of_what_is_found(side: str, program: str) -> None:
     """Where something is missing at the end of each connection, there are lines of all four kinds."""
-    lines = of_kept("smbtorture_v2_leases", [])
+    lines = chain_with_an_older_epoch()
     frames = [line.split(" ") for line in lines.splitlines() if line.startswith("frame ")]
     [_, packet, time, *_] = frames[-1]
     gaps = "".join(f"gap {packet} {time} {connection}\n" for connection in sorted({it[3] for it in frames}))

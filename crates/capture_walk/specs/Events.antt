@@ -221,9 +221,9 @@ is_in_order before now (Some asked) =
 abbrev pub shows_order : Said → Said → ℕ → ℕ → Bool
 shows_order before now old new = is_newer old new || (new == old && is_same_level before.level now.level)
 
--- a grant that changes nothing has the epoch that there is, and a break has a new one
+-- A grant that changes nothing has the epoch that there is, and a break has a new one; the breaks of a chain may have one epoch.
 abbrev pub follows_on : Said → Said → ℕ → ℕ → Bool
-follows_on before now old new = shows_order before now old new || (new == old && not now.breaks)
+follows_on before now old new = shows_order before now old new || (new == old && (not now.breaks || before.breaks))
 
 abbrev pub misnumbered : Lease → Said → Said → Option ℕ → Option ℕ → List Event
 misnumbered lease before now (Some old) (Some new) =

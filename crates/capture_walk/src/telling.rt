@@ -322,7 +322,7 @@ fn shows_order(before: Said, now: Said, old: u16, new: u16) -> bool
 fn follows_on(before: Said, now: Said, old: u16, new: u16) -> bool
     ensures { result ≡ follows_on before now old new }
 {
-    shows_order(before, now, old, new) || (new == old && !now.breaks)
+    shows_order(before, now, old, new) || (new == old && (!now.breaks || before.breaks))
 }
 
 fn push_misnumbered(

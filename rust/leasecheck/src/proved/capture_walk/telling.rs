@@ -216,7 +216,7 @@ fn shows_order(before: Said, now: Said, old: u16, new: u16) -> bool {
 }
 
 fn follows_on(before: Said, now: Said, old: u16, new: u16) -> bool {
-    shows_order(before, now, old, new) || (new == old && !now.breaks)
+    shows_order(before, now, old, new) || (new == old && (!now.breaks || before.breaks))
 }
 
 fn push_misnumbered(events: &mut Vec<Event>, lease: Lease, before: Said, now: Said) -> Result<(), Memory> {
