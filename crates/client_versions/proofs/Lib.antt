@@ -4,3 +4,4 @@ pub mod Numbers
 pub mod Orders
 pub mod Steps
 pub mod Tables
+pub mod Worlds

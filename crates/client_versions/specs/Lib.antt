@@ -3,3 +3,4 @@ pub mod Epochs
 pub mod Rows
 pub mod Kept
 pub mod Laws
+pub mod World

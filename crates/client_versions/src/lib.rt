@@ -33,5 +33,5 @@ mod leases;
 mod tests;
 mod versions;
 
-pub use laws::client_version_laws;
+pub use laws::{client_version_laws, law_of_worlds};
 pub use versions::ClientVersions;
