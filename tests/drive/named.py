@@ -25,9 +25,9 @@ def place_of(words: list[str]) -> Place:
 
 
 @contextmanager
-def named_smbd(more: str = "") -> Iterator[list[str]]:
+def named_smbd(more: str = "", protocol: str = "SMB2_10") -> Iterator[list[str]]:
     """A private smbd; `more` are lines of its configuration."""
-    server = PrivateServer(more=more)
+    server = PrivateServer(protocol=protocol, more=more)
     try:
         yield words_of(server.place)
     finally:

@@ -70,12 +70,13 @@ def is_part(story: list[str], whole: list[str]) -> bool:
     return all(it in left for it in story)
 
 
+@pytest.mark.parametrize("protocol", ["SMB2_10", "SMB3_11"], ids=["2.1", "3.1.1"])
 @pytest.mark.parametrize("path", DRIVEN, ids=name_of)
-def test_while_a_schedule_is_driven(path: Path, program: str, tmp_path: Path) -> None:
+def test_while_a_schedule_is_driven(path: Path, protocol: str, program: str, tmp_path: Path) -> None:
     ports: list[int] = []
 
     def server() -> PrivateServer:
-        one = PrivateServer()
+        one = PrivateServer(protocol=protocol)
         ports.append(one.place.port)
         return one
 

@@ -7,6 +7,7 @@ from pathlib import Path
 
 import pytest
 
+from smblease.serve.dialects import NAMES
 from tests import needs
 from tests.paths import TOP
 from tests.program import completed
@@ -42,6 +43,7 @@ def test_each_option_of_help_is_known(command: str) -> None:
 
 @pytest.mark.parametrize("name, option, words", [
     ("smblease-run", "--rules", RULES), ("smblease-run", "--expect", RULES), ("smblease-serve", "--rules", RULES),
+    ("smblease-run", "--dialect", {"2.1", "3.0", "3.0.2", "3.1.1"}), ("smblease-serve", "--max", {*NAMES}),
     ("smblease-capture", "--at", {"client", "server"}), ("smblease-explore", "--keep", {"charged", "all"}),
 ])
 def test_the_words_of_an_option_are_known(name: str, option: str, words: set[str]) -> None:

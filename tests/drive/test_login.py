@@ -18,6 +18,7 @@ from smblease.drive.connections import Connection  # noqa: E402
 from smblease.drive.faults import DriveFault, Usage  # noqa: E402
 from smblease.drive.login import Login, login_of  # noqa: E402
 from smblease.drive.place import Place  # noqa: E402
+from smblease.serve.dialects import Dialect  # noqa: E402
 from tests.drive.commands import ran, with_private_smbd  # noqa: E402
 from tests.drive.named import named_proved, named_smbd  # noqa: E402
 from tests.paths import TESTS, TOP, built_program  # noqa: E402
@@ -62,6 +63,7 @@ class Ticketed:
     """A protocol that takes note of a login by a ticket."""
 
     given: tuple[object, ...] = ()
+    dialect = Dialect.SMB_2_1
 
     def __init__(self, *_: object) -> None:
         """It is connected."""
@@ -71,9 +73,6 @@ class Ticketed:
 
     def connectTree(self, _: str) -> int:  # pylint: disable=invalid-name
         return 1
-
-    def getDialect(self) -> int:  # pylint: disable=invalid-name
-        return 0x210
 
 
 @pytest.mark.parametrize("ticket", [None, {"ticket": 1}])

@@ -134,7 +134,7 @@ def refusal(words: list[str], folder: Path) -> str:
 FUTILE = {
     "a share that can't be written": ("  read only = yes\n", "share in which files may be made"),
     "encryption": ("  smb encrypt = required\n", "without encryption"),
-    "a dialect": ("[global]\n  server min protocol = SMB3_00\n  server max protocol = SMB3_11\n", "has to speak dialect 2.1"),
+    "a dialect": ("[global]\n  server min protocol = NT1\n  server max protocol = SMB2_02\n", "has to speak dialect 2.1 or "),
 }
 
 

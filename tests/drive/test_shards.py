@@ -127,7 +127,7 @@ def test_table_that_was_made_otherwise(words: list[str], capsys: pytest.CaptureF
     server = [] if "--served" in words else ["--smbd"]
     resumed = [*server, "--seed", "5", "--count", "20", "--folder", "one", "--resume", *words]
     assert explore_command.main(resumed) == 2
-    said = "drive/explore: one/table was made otherwise (# seed 5; server --smbd; options none)"
+    said = "drive/explore: one/table was made otherwise (# seed 5; server --smbd --dialect 3.1.1; options none)"
     assert capsys.readouterr().err.startswith(said)
     assert Path("one/table").read_text(encoding="ascii") == before
 

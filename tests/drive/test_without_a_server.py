@@ -31,6 +31,7 @@ from smblease.outs import Changed, Opened  # noqa: E402
 from smblease.program import Verdict, judge, replay  # noqa: E402
 from smblease.replies import Break, Closed, Created  # noqa: E402
 from smblease.schedules import Event, EventKind, Schedule  # noqa: E402
+from smblease.serve.dialects import Dialect  # noqa: E402
 from smblease.values import Status  # noqa: E402
 from tests.drive.commands import FOUND  # noqa: E402
 from tests.paths import SCHEDULES, TESTS, TOP, name_of  # noqa: E402
@@ -96,6 +97,7 @@ class Forgetful:
     refusals = 0
     tries = 0
     step = "login"
+    dialect = Dialect.SMB_2_1
 
     def __init__(self, place: Place, guid: bytes) -> None:
         self.given = (place, guid)
@@ -111,9 +113,6 @@ class Forgetful:
     def connectTree(self, _: str) -> int:  # pylint: disable=invalid-name
         self.refuse("tree")
         return 1
-
-    def getDialect(self) -> int:  # pylint: disable=invalid-name
-        return 0x210
 
     def close_session(self) -> None:
         """Closes nothing."""

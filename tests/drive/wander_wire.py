@@ -1,5 +1,5 @@
 """Connections of random clients to a real server, in dialect 2.1 or 3.1.1, over impacket's transport and NTLM, and their
-requests, which are sent without waiting for an answer."""
+requests, which are sent without waiting for an answer, and aren't signed."""
 # pylint: disable=protected-access
 # (impacket has no other way to its socket and its count of messages)
 from __future__ import annotations
@@ -8,13 +8,13 @@ import select
 import struct
 from collections.abc import Callable, Iterator
 from contextlib import contextmanager, suppress
-from dataclasses import dataclass
+from dataclasses import dataclass, replace
 
 from smblease.drive.place import Place
+from smblease.serve.dialects import NAMES
 
 from tests.drive.hand_made import PREVIOUS, acknowledgment, chain, close, compound, context, lease, message, of_session
 
-DIALECTS = {"2.1": 0x210, "3.1.1": 0x311}
 PROTOCOLS = {"2.1": "SMB2_10", "3.1.1": "SMB3_11"}
 CREDITS = 64
 LEASE_LEVEL = 0xFF
@@ -106,12 +106,9 @@ class Channel:
 
     def __init__(self, place: Place, guid: bytes, dialect: str) -> None:
         # (it loads impacket, which a module that names this one shall do without)
-        from smblease.drive.connections import Protocol  # pylint: disable=import-outside-toplevel
+        from smblease.drive.protocol import Protocol  # pylint: disable=import-outside-toplevel
         with _kept():
-            self._smb = Protocol(place, guid, DIALECTS[dialect])
-            # (impacket has its session go on from that with Kerberos alone, and encrypts what it may)
-            self._smb._Session["PreauthIntegrityHashValue"] = self._smb._Connection["PreauthIntegrityHashValue"]
-            self._smb._Connection["SupportsEncryption"] = False
+            self._smb = Protocol(replace(place, dialects=(NAMES[dialect],)), guid)
             self._smb.login(place.user, place.password, place.domain)
             self._tree = int(self._smb.connectTree(place.share))
             self._session = int(self._smb._Session["SessionID"])
@@ -122,7 +119,7 @@ class Channel:
         first = int(self._smb._Connection["SequenceWindow"])
         self._smb._Connection["SequenceWindow"] += len(made)
         with _kept():
-            self._smb._NetBIOSSession.send_packet(compound([self._of_session(one(first + at)) for at, one in enumerate(made)]))
+            self._smb.frames.bare.send_packet(compound([self._of_session(one(first + at)) for at, one in enumerate(made)]))
         return first
 
     def _of_session(self, one: bytes) -> bytes:
@@ -136,10 +133,10 @@ class Channel:
     def received(self, seconds: float) -> bytes | None:
         """The next frame; none where none comes in that time."""
         with _kept():
-            if not select.select([self._smb._NetBIOSSession.get_socket()], [], [], seconds)[0]:
+            if not select.select([self._smb.frames.get_socket()], [], [], seconds)[0]:
                 return None
-            return bytes(self._smb._NetBIOSSession.recv_packet(20).get_trailer())
+            return bytes(self._smb.frames.bare.recv_packet(20).get_trailer())
 
     def closes(self) -> None:
         with suppress(OSError):
-            self._smb._NetBIOSSession.close()
+            self._smb.frames.close()

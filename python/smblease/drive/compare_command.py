@@ -38,8 +38,8 @@ def _facts(arguments: argparse.Namespace, schedule: Schedule) -> tuple[Run, list
         run = Run.waited(schedule, outcome.steps) if runner.stays else Run(schedule)
         return run, outcome.record.facts(), outcome.counts
     of_a_run = (arguments.server, arguments.share, arguments.user, arguments.authentication_file, arguments.break_time,
-                arguments.smbd_log)
-    if arguments.smbd or arguments.served or any(it is not None for it in of_a_run):
+                arguments.smbd_log, arguments.dialect)
+    if arguments.smbd or arguments.served or arguments.encrypt or any(it is not None for it in of_a_run):
         raise Usage("--record is of a run that was driven already")
     try:
         with open(arguments.record, encoding="utf-8", errors="replace") as stream:

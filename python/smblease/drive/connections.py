@@ -1,4 +1,4 @@
-"""SMB 2.1 connections: one for each client, over impacket's transport, NTLM and structures."""
+"""SMB connections: one for each client, over impacket's transport, NTLM and structures."""
 # pylint: disable=protected-access
 # (impacket has no other way to its socket and its count of messages)
 from __future__ import annotations
@@ -14,16 +14,18 @@ from typing import Any
 from impacket import ntlm
 from impacket import smb3structs as smb2
 from impacket.krb5.ccache import CCache
-from impacket.smb3 import SMB3, SessionError
+from impacket.smb3 import SessionError
 
 import smblease
 from smblease.drive import headers
 from smblease.drive.faults import DriveFault
 from smblease.drive.headers import HEADER
 from smblease.drive.place import Place
+from smblease.drive.protocol import Protocol
 from smblease.drive.received import PATIENCE, FileId, Message
 from smblease.replies import AcknowledgeDone, Closed, Created, ReadDone, Reply, WriteDone, failed
 from smblease.requests import CloseRequest, CreateRequest, ReadRequest, Request, WriteRequest
+from smblease.serve.dialects import Dialect, name_of
 from smblease.values import LARGEST_FILE, Access, Status
 
 # The header of a request that isn't signed (2.2.1.2), and the body of an ECHO (2.2.28).
@@ -35,7 +37,6 @@ CREDIT_BYTES = 65536
 ENDING = 0.5
 SESSION_TRIES = 20
 BETWEEN_TRIES = 0.1
-DIALECT = "the server has to speak dialect 2.1, which alone is driven (smbd: `server min protocol = SMB2_10` or lower)"
 ACCESS = {Access.READ: 0x120089, Access.WRITE: 0x120116, Access.READ_WRITE: 0x12019F}
 SHARE_ALL = 7
 
@@ -64,28 +65,15 @@ def _why(fault: Exception) -> str:
     return (text.splitlines() or [type(fault).__name__])[0][:120]
 
 
-class Protocol(SMB3):  # type: ignore[misc]
-    """impacket's client, with the given ClientGuid, and no capabilities, as dialect 2.1 asks (2.2.3)."""
-
-    def __init__(self, place: Place, guid: bytes, dialect: int = smb2.SMB2_DIALECT_21) -> None:
-        self._guid = guid
-        super().__init__(place.host, place.host, sess_port=place.port, timeout=PATIENCE, preferredDialect=dialect)
-
-    def negotiateSession(self, preferredDialect: int | None = None, negSessionResponse: object = None) -> None:
-        self.ClientGuid = self._guid
-        super().negotiateSession(preferredDialect, negSessionResponse)
-
-    def sendSMB(self, packet: smb2.SMB2Packet) -> int:
-        if packet["Command"] == smb2.SMB2_NEGOTIATE:
-            packet["Data"]["Capabilities"] = 0
-        return int(super().sendSMB(packet))
-
-
 class Connection:
     """A connection with its session and tree. What it can't do is a DriveFault."""
 
     def __init__(self, place: Place, guid: bytes) -> None:
         self._smb, self._tree = _connected(place, guid)
+
+    @property
+    def dialect(self) -> Dialect:
+        return self._smb.dialect
 
     def send(self, request: Request, name: str, file_id: FileId) -> int:
         """Sends a request, whose file has this name, or whose FileId is this one; answers its number."""
@@ -105,25 +93,22 @@ class Connection:
 
     def echo(self) -> int:
         """Asks whether the server is there; most of what goes over a connection is that, so it doesn't go through the structures
-        of impacket where nothing has to be signed."""
-        connection, session = self._smb._Connection, self._smb._Session
-        if session["SigningActivated"]:
-            return self._send(smb2.SMB2_ECHO, smb2.SMB2Echo())
-        number = int(connection["SequenceWindow"])
-        connection["SequenceWindow"] += 1
+        of impacket."""
+        number = int(self._smb._Connection["SequenceWindow"])
+        self._smb._Connection["SequenceWindow"] += 1
         header = REQUEST.pack(PROTOCOL, HEADER, 1, 0, smb2.SMB2_ECHO, CREDITS, 0, 0, number, 0, self._tree,
-                              session["SessionID"], b"")
+                              self._smb._Session["SessionID"], b"")
         with told("a connection is lost"):
-            self._smb._NetBIOSSession.send_packet(header + ECHO)
+            self._smb.frames.send_packet(header + ECHO)
         return number
 
     def receive(self, until: float) -> Message | None:
         """The next message, or none where none comes until this time."""
         with told("a connection is lost"):
-            socket = self._smb._NetBIOSSession.get_socket()
+            socket = self._smb.frames.get_socket()
             if not select.select([socket], [], [], max(0.0, until - time.monotonic()))[0]:
                 return None
-            header = headers.Message(self._smb._NetBIOSSession.recv_packet(PATIENCE).get_trailer())
+            header = headers.Message(self._smb.frames.recv_packet(PATIENCE).get_trailer())
             return Message(header.identifier, header.status, header.data[HEADER:])
 
     def make_file(self, name: str, data: bytes) -> None:
@@ -143,7 +128,7 @@ class Connection:
 
     def end(self) -> None:
         """Closes it, and waits until the server has closed it too, or doesn't for a while."""
-        stream = self._smb._NetBIOSSession.get_socket()
+        stream = self._smb.frames.get_socket()
         stream.settimeout(ENDING)
         with suppress(OSError):
             stream.shutdown(SHUT_WR)
@@ -152,7 +137,7 @@ class Connection:
         self.close()
 
     def close(self) -> None:
-        self._smb._NetBIOSSession.close()
+        self._smb.frames.close()
 
     def _send(self, command: int, data: object, length: int = 0) -> int:
         charge = max(1, -(-length // CREDIT_BYTES))
@@ -184,12 +169,11 @@ def _nowhere(place: Place) -> str:
 
 
 def _negotiated(place: Place, guid: bytes) -> Protocol:
-    """A connection that speaks dialect 2.1."""
-    with told(_nowhere(place), DIALECT, "an SMB server has to be there that takes connections"):
-        smb = Protocol(place, guid)
-    if smb.getDialect() != smb2.SMB2_DIALECT_21:
-        raise DriveFault(f"{_nowhere(place)}: {DIALECT}")
-    return smb
+    """A connection that speaks one of the dialects that its place has."""
+    names = " or ".join(map(name_of, place.dialects))
+    need = f"the server has to speak dialect {names} (smbd: `server min protocol` and `server max protocol`)"
+    with told(_nowhere(place), need, "an SMB server has to be there that takes connections"):
+        return Protocol(place, guid)
 
 
 def _tree(smb: Protocol, place: Place) -> int:
@@ -199,8 +183,9 @@ def _tree(smb: Protocol, place: Place) -> int:
     else:
         with told(_nowhere(place), f"the server has to let user {place.user} in with this password"):
             smb.login(place.user, place.password, place.domain)
-    with told(_nowhere(place), f"share {place.share} has to be there for user {place.user}, without encryption, which dialect "
-                               "2.1 doesn't have (smbd: `smb encrypt`; Windows: EncryptData)"):
+    without = ", without encryption, which dialect 2.1 doesn't have (smbd: `smb encrypt`; Windows: EncryptData)"
+    with told(_nowhere(place), f"share {place.share} has to be there for user {place.user}"
+                               + ("" if smb.dialect >= Dialect.SMB_3_0 else without)):
         return int(smb.connectTree(place.share))
 
 

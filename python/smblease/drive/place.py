@@ -5,6 +5,10 @@ from abc import ABC, abstractmethod
 from dataclasses import dataclass
 from enum import Enum
 
+from smblease.serve.dialects import Dialect
+
+# Those that can be driven; 2.0.2 has no leases.
+DRIVEN = tuple(it for it in Dialect if it >= Dialect.SMB_2_1)
 
 @dataclass(frozen=True)
 class Place:
@@ -16,6 +20,10 @@ class Place:
     domain: str = ""
     # whether a ticket of Kerberos says who asks, and no password
     by_ticket: bool = False
+    # those that are offered, of which the greatest stands last
+    dialects: tuple[Dialect, ...] = (Dialect.SMB_2_1,)
+    # whether all has to be encrypted, whatever the server wants
+    encrypts: bool = False
 
 
 class Timers(Enum):

@@ -17,6 +17,7 @@ from smblease.drive.connecting import password_hash
 from smblease.drive.faults import DriveFault, Undrivable
 from smblease.drive.place import Place, Server, Timers
 from smblease.drive.slots import Slots
+from smblease.serve.dialects import SMBD_NAMES
 
 SMBD = "/usr/sbin/smbd"
 SHARE = "share"
@@ -103,15 +104,15 @@ class PrivateServer(Server):
 
     timers = Timers.OF_CONNECTION
 
-    def __init__(self, log: str | None = None, protocol: str = "SMB2_10", more: str = "") -> None:
+    def __init__(self, log: str | None = None, protocol: str = "SMB2_10", more: str = "", encrypts: bool = False) -> None:
         """`log` is a file that gets smbd's log, at level 10, when it is ended; `protocol` is the one dialect that it speaks, as
-        smb.conf names it; `more` are other lines of that file, those of the share first."""
+        smb.conf names it; `more` are other lines of that file, those of the share first; `encrypts`: who asks encrypts."""
         if os.geteuid() != 0 or not os.path.exists(SMBD):
             raise DriveFault(f"a private smbd needs root and {SMBD} ({where_from('samba')})")
         clock = library()
         self._log = log
         self._folder = tempfile.mkdtemp(prefix="leasecheck-drive-")
-        self.place = Place("127.0.0.1", free_port(), SHARE, "root", PASSWORD)
+        self.place = Place("127.0.0.1", free_port(), SHARE, "root", PASSWORD, dialects=(SMBD_NAMES[protocol],), encrypts=encrypts)
         self._write_folder(protocol, more)
         self._clocks = Clocks(f"{self._folder}/clocks")
         self._known: set[int] = set()

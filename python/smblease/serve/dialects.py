@@ -24,6 +24,10 @@ SMBD_NAMES = {"SMB2_02": Dialect.SMB_2_0_2, "SMB2_10": Dialect.SMB_2_1, "SMB3_00
 DEFAULT = "2.1"
 
 
+def name_of(dialect: Dialect) -> str:
+    return next(name for name, found in NAMES.items() if found is dialect)
+
+
 def smbd_name(dialect: Dialect) -> str:
     return next(name for name, found in SMBD_NAMES.items() if found is dialect)
 

@@ -53,9 +53,15 @@ class Chosen:
 
 def each(message: Message) -> Iterator[tuple[int, bytes]]:
     """Types and data, in order. What doesn't lie in the message is STATUS_INVALID_PARAMETER."""
-    data, place, count = message.data, message.number(HEADER + 28, 4), message.number(HEADER + 32, 2)
+    place, count = message.number(HEADER + 28, 4), message.number(HEADER + 32, 2)
     if count and (place % 8 or place < HEADER + 36):
         raise StatusError(Status.INVALID_PARAMETER)
+    return each_at(message, place, count)
+
+
+def each_at(message: Message, place: int, count: int) -> Iterator[tuple[int, bytes]]:
+    """So many that begin at this place of a message, of a request or of an answer."""
+    data = message.data
     for _ in range(count):
         place += -place % 8
         if place + HEAD.size > len(data):
@@ -108,10 +114,11 @@ def answered(chosen: Chosen, salt: bytes) -> tuple[int, bytes]:
         contexts.append((ContextType.ENCRYPTION_CAPABILITIES, struct.pack("<HH", 1, chosen.cipher or 0)))
     if chosen.algorithm is not None:
         contexts.append((ContextType.SIGNING_CAPABILITIES, struct.pack("<HH", 1, chosen.algorithm)))
-    return len(contexts), _joined(contexts)
+    return len(contexts), joined(contexts)
 
 
-def _joined(contexts: Sequence[tuple[ContextType, bytes]]) -> bytes:
+def joined(contexts: Sequence[tuple[ContextType, bytes]]) -> bytes:
+    """As they stand in a message."""
     text = b""
     for kind, data in contexts:
         text += bytes(-len(text) % 8) + HEAD.pack(kind, len(data), 0) + data

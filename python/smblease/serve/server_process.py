@@ -10,13 +10,15 @@ import sys
 import tempfile
 import uuid
 from collections.abc import Sequence
+from dataclasses import replace
 
 from smblease._library import TOP
 from smblease.drive.faults import DriveFault
 from smblease.drive.place import Place, Server
+from smblease.serve.dialects import Dialect, name_of
 from smblease.values import LARGEST_FILE, Rules
 
-SHARE = "share"
+SHARE, USER, PASSWORD = "share", "driver", "private"
 PATIENCE = 30.0
 
 
@@ -102,8 +104,16 @@ class DrivenServer(ServerProcess, Server):
 
     is_profiled = True
 
-    def __init__(self, leasecheck: str, record: str | None = None, rules: Rules = Rules()) -> None:
-        super().__init__(leasecheck, record, ["--rules", str(rules), "--limit", str(LARGEST_FILE)])
+    def __init__(self, leasecheck: str, record: str | None = None, rules: Rules = Rules(), dialect: Dialect = Dialect.SMB_2_1,
+                 encrypts: bool = False) -> None:
+        """It speaks this dialect alone; a user asks it where messages are encrypted, else guests, which have no keys."""
+        named = name_of(dialect)
+        words = ["--rules", str(rules), "--limit", str(LARGEST_FILE), "--min", named, "--max", named]
+        if encrypts:
+            super().__init__(leasecheck, record, [*words, "--user", f"{USER}%{PASSWORD}", "--encrypt"], USER, PASSWORD)
+        else:
+            super().__init__(leasecheck, record, words)
+        self.place = replace(self.place, dialects=(dialect,), encrypts=encrypts)
 
     def begin_break_timer(self, process: int | None, guid: bytes, key: bytes) -> None:
         self.tell(f"expire {uuid.UUID(bytes=guid)} {key.hex()}")

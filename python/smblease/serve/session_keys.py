@@ -4,15 +4,12 @@ from __future__ import annotations
 import hashlib
 import hmac
 from dataclasses import dataclass
-from typing import TYPE_CHECKING, NamedTuple
+from typing import NamedTuple, Protocol
 
 from smblease.serve.dialects import Dialect
 from smblease.serve.negotiate_contexts import Cipher, SigningAlgorithm
 from smblease.serve.signing import HmacSigner, Signer
 from smblease.serve.transforms import SessionEncryption
-
-if TYPE_CHECKING:
-    from smblease.serve.negotiation import Terms
 
 LONG_CIPHERS = (Cipher.AES_256_CCM, Cipher.AES_256_GCM)
 
@@ -40,14 +37,29 @@ def derived(key: bytes, label: bytes, context: bytes, bits: int = 128) -> bytes:
     return hmac.new(key, block, hashlib.sha256).digest()[:bits // 8]
 
 
-def session_keys(terms: Terms, session: int, key: bytes, integrity: bytes) -> SessionKeys:
-    """Those of a session whose user was proved; `integrity` is its hash at 3.1.1."""
+class Algorithms(Protocol):
+    """What a connection has agreed on that makes keys."""
+
+    @property
+    def dialect(self) -> Dialect: ...
+
+    @property
+    def cipher(self) -> Cipher | None: ...
+
+    @property
+    def algorithm(self) -> SigningAlgorithm: ...
+
+
+def session_keys(terms: Algorithms, session: int, key: bytes, integrity: bytes, is_client: bool = False) -> SessionKeys:
+    """Those of a session whose user was proved, for its server or its client; `integrity` is its hash at 3.1.1."""
     if terms.dialect < Dialect.SMB_3_0:
         return SessionKeys(HmacSigner(key))
     is_of_3_1_1 = terms.dialect is Dialect.SMB_3_1_1
     bits = 256 if terms.cipher in LONG_CIPHERS else 128
     signing, opening, sealing = (derived(key, it.label, integrity if is_of_3_1_1 else it.context, size) for it, size
                                  in zip(OF_3_1_1 if is_of_3_1_1 else (SIGNING, OPENING, SEALING), (128, bits, bits)))
+    if is_client:
+        sealing, opening = opening, sealing
     return SessionKeys(_signer(terms.algorithm, signing), _encryption(terms.cipher, session, sealing, opening))
 
 
