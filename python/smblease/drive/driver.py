@@ -22,6 +22,7 @@ from smblease.processes import LineClients
 from smblease.replies import Created
 from smblease.requests import AcknowledgeRequest, CreateRequest, Request, WriteRequest
 from smblease.schedules import Event, EventKind, Schedule
+from smblease.serve.dialects import name_of
 from smblease.values import LARGEST_FILE
 from smblease.world import World
 
@@ -64,6 +65,7 @@ class Driver(World[DrivenPeer]):
                 peer.connection.end()
             elif peer.connection:
                 peer.connection.close()
+            peer.versions.close()
 
     def _served(self, client: int, request: Request) -> None:
         self.record.remark(f"served {client} {request_words(request)}")
@@ -73,7 +75,9 @@ class Driver(World[DrivenPeer]):
 
     def _joined(self, client: int) -> None:
         peer = self.peers[client]
-        peer.connection = connected(self._server.place, self._names.of(peer.guid.bytes))
+        connection = connected(self._server.place, self._names.of(peer.guid.bytes))
+        peer.is_connected(connection)
+        self.record.remark(f"client {client} speaks dialect {name_of(connection.dialect)}")
         peer.process = self._server.new_process()
 
     def _dropped(self, client: int) -> None:
@@ -156,6 +160,8 @@ class Driver(World[DrivenPeer]):
         """Waits for all that comes of an event, and writes it down."""
         self._check_breaks()
         arrivals = self._exchange.settled()
+        for client in self._exchange.passed_over():
+            self.record.remark(f"a break that client {client} knows to be old isn't taken")
         self.record.step(arrivals)
         for arrival in in_order(arrivals, Order.BREAKS_FIRST):
             if isinstance(arrival.effect, Changed):

@@ -2,6 +2,8 @@
 from __future__ import annotations
 
 import time
+import uuid
+from dataclasses import replace
 
 import smblease
 from smblease.drive.connecting import reply_of
@@ -30,6 +32,7 @@ class Exchange:
         self._peers = peers
         self._names = names
         self._arrived: list[tuple[int, Message]] = []
+        self._passed_over: list[int] = []
         self._sent = 0
 
     def send(self, client: int, request: Request, name: str) -> None:
@@ -38,8 +41,9 @@ class Exchange:
         if not peer.connection:
             raise DriveFault(f"client {client} has no connection")
         self._sent += 1
-        number = peer.connection.send(self._names.of_request(request), name, peer.file_id_for(request))
-        peer.unanswered[number] = Unanswered(request, self._sent)
+        sent = Unanswered(request, self._sent, uuid.uuid4())
+        number = peer.connection.send(self._names.of_request(_as_sent(peer, sent)), name, peer.file_id_for(request))
+        peer.unanswered[number] = sent
         self._wait_for(client, number)
 
     def settled(self) -> list[Arrival]:
@@ -58,7 +62,12 @@ class Exchange:
             quiet = quiet + 1 if len(self._arrived) == before else 0
         arrivals = [self._arrival(client, message) for client, message in self._arrived]
         self._arrived.clear()
-        return arrivals
+        return [it for it in arrivals if it]
+
+    def passed_over(self) -> list[int]:
+        """The clients to which breaks came that are older than what they know, since this was asked last."""
+        found, self._passed_over = self._passed_over, []
+        return found
 
     def _is_doing(self) -> bool:
         """Whether the request that was sent last is a read or a write without an answer."""
@@ -79,41 +88,66 @@ class Exchange:
             if message.number == number:
                 return
 
-    def _arrival(self, client: int, message: Message) -> Arrival:
+    def _arrival(self, client: int, message: Message) -> Arrival | None:
         peer = self._peers[client]
         if message.number == NOTIFICATION_ID:
-            notice = _noted_break(client, peer, self._names.of_reply(Break(message.data)))
-            self.tried = self.tried.after(None, notice)
-            peer.replies.append(notice)
-            return Arrival(client, client, notice)
+            return self._break(client, _noted_break(client, peer, self._names.of_reply(Break(message.data))))
         sent = peer.unanswered.pop(message.number, None)
         if sent is None:
             raise DriveFault(f"an answer to no request came to client {client}")
         reply, file_id = reply_of(sent.request, message)
-        reply = self._names.of_reply(reply)
+        reply = _as_taken(client, peer, sent, self._names.of_reply(reply))
         self.tried = self.tried.after(sent.request, reply)
         peer.replies.append(reply)
         return Arrival(client, sent.place, reply, _effect(client, peer, sent.request, reply, file_id))
 
+    def _break(self, client: int, notice: Break | None) -> Arrival | None:
+        if notice is None:
+            self._passed_over.append(client)
+            return None
+        self.tried = self.tried.after(None, notice)
+        self._peers[client].replies.append(notice)
+        return Arrival(client, client, notice)
 
-def _noted_break(client: int, peer: DrivenPeer, came: Reply) -> Break:
-    """A notification, which its peer is told of."""
+
+def _as_sent(peer: DrivenPeer, sent: Unanswered) -> Request:
+    """A request with the contexts that its connection has."""
+    if not isinstance(sent.request, CreateRequest):
+        return sent.request
+    return replace(sent.request, contexts=peer.versions.ask(sent.request.contexts, sent.guid))
+
+
+def _as_taken(client: int, peer: DrivenPeer, sent: Unanswered, reply: Reply) -> Reply:
+    """An answer with the contexts that the client's machine knows."""
+    if not isinstance(reply, Created):
+        return reply
+    try:
+        return replace(reply, contexts=peer.versions.answered(reply.file_id, sent.guid, reply.contexts))
+    except ValueError:
+        raise DriveFault(f"the contexts of an answer to client {client} can't be read") from None
+
+
+def _noted_break(client: int, peer: DrivenPeer, came: Reply) -> Break | None:
+    """A notification, which its peer is told of; none where the client's machine isn't given it."""
     data = came.message if isinstance(came, Break) else b""
     try:
         notice = smblease.Notification.read(data)
-    except smblease.Fault:
+        taken = peer.versions.noticed(data[:smblease.messages.NOTIFICATION_SIZE])
+    except ValueError:
         raise DriveFault(f"what came to client {client} unasked is no break of a lease") from None
     file = peer.file_of(notice.key)
     if notice.ack_required and file is not None:
         peer.breaking[file] = time.monotonic()
-    return Break(data[:smblease.messages.NOTIFICATION_SIZE])
+    return None if taken is None else Break(taken)
 
 
 def _effect(client: int, peer: DrivenPeer, request: Request, reply: Reply, file_id: FileId | None) -> Opened | Changed | None:
     """What an answer shows that the server did, which the client's peer is told of too."""
     if isinstance(request, CreateRequest) and isinstance(reply, Created) and file_id:
         peer.is_opened(request.file, file_id)
-        return None if smblease.find_context(request.contexts, b"DHnC") else Opened(request.file, client)
+        return None if peer.versions.connects_again(request.contexts) else Opened(request.file, client)
+    if isinstance(request, CreateRequest):
+        peer.versions.refused(request.contexts)
     if isinstance(request, WriteRequest) and isinstance(reply, WriteDone):
         if request.file_id not in peer.files:
             raise DriveFault(f"client {client} wrote by a FileId that it doesn't have")

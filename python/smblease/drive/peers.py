@@ -7,6 +7,7 @@ from typing import TYPE_CHECKING
 
 import smblease
 from smblease.drive.received import FileId
+from smblease.drive.versions_of_dialect import Versions
 from smblease.requests import AcknowledgeRequest, CreateRequest, Request
 from smblease.world import Peer
 
@@ -16,16 +17,18 @@ if TYPE_CHECKING:
 
 @dataclass(frozen=True)
 class Unanswered:
-    """A request that isn't answered yet, and its place among all that were sent."""
+    """A request that isn't answered yet, and its place among all that were sent; a CREATE may have this CreateGuid."""
 
     request: Request
     place: int
+    guid: uuid.UUID
 
 
 @dataclass
 class DrivenPeer(Peer):
     """A client with what its connection has shown."""
 
+    versions: Versions = field(default_factory=Versions)
     connection: Connection | None = None
     process: int | None = None
     unanswered: dict[int, Unanswered] = field(default_factory=dict)
@@ -54,6 +57,10 @@ class DrivenPeer(Peer):
             return FileId(0, 0)
         return self.file_ids.get(request.file_id, FileId(request.file_id, request.file_id))
 
+    def is_connected(self, connection: Connection) -> None:
+        self.connection = connection
+        self.versions.speaks(connection.dialect)
+
     def is_opened(self, file: int, file_id: FileId) -> None:
         self.file_ids[file_id.persistent] = file_id
         self.files[file_id.persistent] = file
@@ -66,6 +73,7 @@ class DrivenPeer(Peer):
     def is_closed(self, file_id: int) -> None:
         file = self.files.pop(file_id, None)
         self.file_ids.pop(file_id, None)
+        self.versions.closed(file_id)
         if file is not None and file not in self.files.values():
             self.breaking.pop(file, None)
 

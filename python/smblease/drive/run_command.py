@@ -15,14 +15,14 @@ EPILOG = """The record is printed, and the verdict as its last line, so that all
 `# nothing tried` where no lease was granted. With --expect `# unexpected PLACE` comes after a line that says where the
 record first isn't what a server of these rules gives. With --record it goes to a file, and the rest is printed. Remarks
 of --messages begin with `# served`, a request that was sent to the server, `# sent` and `# took`, each with the client
-and the words of the message.
+and the words of the message, in version 1; others say which dialect each client speaks.
 
 Exit status: 0 the record is safe; 1 the schedule couldn't be driven to its end; 2 the command line is refused; 3 the
 record is unsafe, or not as expected; 4 it is safe, and no lease was granted."""
 
 
 def parser() -> argparse.ArgumentParser:
-    made = parser_of("drive/run", "Drives a real SMB 2.1 server through a schedule.", EPILOG)
+    made = parser_of("drive/run", "Drives a real SMB server through a schedule.", EPILOG)
     made.add_argument("schedule", metavar="SCHEDULE", help="a file with a schedule (docs/FORMATS.md), - for standard input")
     made.add_argument("--record", metavar="FILE", help="write the record there")
     made.add_argument("--messages", action="store_true",
