@@ -125,7 +125,8 @@ def run_on_smbd(tests: Sequence[str], arguments: argparse.Namespace) -> list[Row
     need("impacket", "--smbd")
     # Compiled once, before servers are made side by side.
     library()
-    return run_tests(tests, lambda _: PrivateServer(), arguments)
+    protocol = smbd_name(dialect_of("--max", arguments.max))
+    return run_tests(tests, lambda _: PrivateServer(protocol=protocol), arguments)
 
 
 def run_on_served(tests: Sequence[str], arguments: argparse.Namespace) -> list[Row]:
