@@ -27,10 +27,11 @@ Sent = List[Tuple["FrameClient", Message]]
 
 
 class NotingHost(ManagerHost):
-    """It notes what it asks the manager: clients, tags and files, which the manager can be asked about."""
+    """It notes what it asks the manager: clients, tags and files, which the manager can be asked about. It follows versions,
+    whether its server's clients know of that or not."""
 
-    def __init__(self, rules: Rules, server: Server) -> None:
-        super().__init__(rules, server)
+    def __init__(self, rules: Rules, server: Server, _: bool = False) -> None:
+        super().__init__(rules, server, has_versions=True)
         self.noted: list[tuple[int, int, int]] = []
 
     def _put(self, task: Task, asked: Asked) -> bool:

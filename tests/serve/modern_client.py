@@ -24,6 +24,8 @@ class ModernClient(WireClient):  # pylint: disable=too-many-instance-attributes 
         self.number = self.session = self.tree = 0
         self.breaks: list[Message] = []
         self.guard = Guard.NONE
+        # those that its next requests have besides
+        self.flags = 0
         # of the message that came last: its bytes as they came
         self.came = b""
         self.key = self.sealing = self.opening = b""
@@ -91,7 +93,7 @@ class ModernClient(WireClient):  # pylint: disable=too-many-instance-attributes 
         """One request as it goes, under the next number."""
         guard = self.guard if guard is None else guard
         number = self.number if number is None else number
-        flags = SIGNED if guard is Guard.SIGNED else 0
+        flags = self.flags | (SIGNED if guard is Guard.SIGNED else 0)
         data = header(body[0], number, self.session, self.tree, flags=flags, charge=charge) + body[1]
         if guard is Guard.SIGNED:
             data = data[:48] + independent.signature(self.algorithm, self.key, data) + data[64:]

@@ -18,7 +18,7 @@ from tests.serve.requests import ECHO, EVERY_FILE_ID, KEY, Body, create, frame, 
 
 pytestmark = NEEDED
 ALL = tuple(DIALECTS.values())
-LEASING, LARGE_MTU = 2, 4
+LEASING, LARGE_MTU, DIRECTORY_LEASING = 2, 4, 0x20
 VALIDATE = 0x140204
 SMB2_02, SMB3_00, SMB3_02, SMB3_11 = (DIALECTS[it] for it in ("SMB2_02", "SMB3_00", "SMB3_02", "SMB3_11"))
 
@@ -28,10 +28,18 @@ def agreed(answer: Message) -> tuple[int, int, int, int]:
     return answer.status, answer.number(68, 2), answer.number(88, 4), answer.number(96, 4)
 
 
+def capabilities_of(dialect: int) -> int:
+    """What is offered to clients that encrypt."""
+    if dialect == SMB2_02:
+        return 0
+    return LEASING | LARGE_MTU | (DIRECTORY_LEASING if dialect >= SMB3_00 else 0) | (
+        ENCRYPTION if dialect in (SMB3_00, SMB3_02) else 0)
+
+
 @pytest.mark.parametrize("dialect", ALL, ids=list(DIALECTS))
 def test_each_dialect(every: ServerProcess, modern: Modern, dialect: int) -> None:
-    """No leases nor large messages at 2.0.2; encryption has a capability at 3.0 and 3.0.2; no directory leasing anywhere."""
-    expected = 0 if dialect == SMB2_02 else LEASING | LARGE_MTU | (ENCRYPTION if dialect in (SMB3_00, SMB3_02) else 0)
+    """No leases nor large messages at 2.0.2; leases of folders from 3.0 on; encryption has a capability at 3.0 and 3.0.2."""
+    expected = capabilities_of(dialect)
     for asking in (Asking((dialect,)), Asking(tuple(it for it in ALL if it <= dialect))):
         answer = modern(every, asking).negotiate()
         assert agreed(answer) == (Status.SUCCESS, dialect, expected, 65536 if dialect == SMB2_02 else 1 << 20)
@@ -40,7 +48,7 @@ def test_each_dialect(every: ServerProcess, modern: Modern, dialect: int) -> Non
 
 def test_encryption_that_a_client_has_not(every: ServerProcess, modern: Modern) -> None:
     answer = modern(every, Asking((SMB3_00,), capabilities=0)).negotiate()
-    assert agreed(answer)[2] == LEASING | LARGE_MTU
+    assert agreed(answer)[2] == LEASING | LARGE_MTU | DIRECTORY_LEASING
 
 
 @pytest.mark.parametrize("words, dialects, expected", [
@@ -143,23 +151,6 @@ def contexts_in(answer: Message) -> bytes:
     return answer.part(place, length) if length else b""
 
 
-# A lease of version 2, a durable open of version 2, and one that is to be connected again.
-LEASE_2 = Context(b"RqLs", KEY.bytes + struct.pack("<LLQ16sHH", 7, 0, 0, b"", 5, 0))
-DURABLE_2 = Context(b"DH2Q", struct.pack("<LLQ16s", 1000, 0, 0, b"c" * 16))
-
-
-@pytest.mark.parametrize("added, level", [((LEASE_2,), 0xFF), ((LEASE_2, DURABLE_2), 0xFF), ((DURABLE_2,), 9)],
-                         ids=["a lease", "a lease that lasts", "an oplock that lasts"])
-def test_contexts_of_version_2(every: ServerProcess, modern: Modern, added: tuple[Context, ...], level: int) -> None:
-    """They are passed over: nothing is granted by them, nor said of them."""
-    one = modern(every, Asking(guid=b"v" * 16)).begin(USER, PASSWORD)
-    contexts = CreateAsk(durable=level == 0xFF).write()
-    for it in added:
-        contexts = append_context(contexts, it)
-    answer = one.ask(create(f"{level} {len(added)}", level=level, contexts=contexts))
-    assert (answer.status, contexts_in(answer), answer.number(66, 1)) == (Status.SUCCESS, b"", 0 if level == 0xFF else level)
-
-
 def test_a_lease_of_version_1(every: ServerProcess, modern: Modern) -> None:
     one = modern(every, Asking(guid=b"w" * 16)).begin(USER, PASSWORD)
     answer = CreateAnswer.read(contexts_in(one.ask(leased("of version 1", KEY, "RWH", durable=True))))
@@ -178,7 +169,7 @@ def again(file_id: int, guid: bytes) -> bytes:
     pytest.param(append_context(b"", Context(b"DH2C", bytes(35))), Status.INVALID_PARAMETER, id="short")])
 def test_an_open_of_version_2_that_is_to_be_connected_again(every: ServerProcess, modern: Modern, contexts: bytes,
                                                             status: Status) -> None:
-    """There is none, so that no new open may stand for it."""
+    """Where there is none, no new open may stand for it."""
     one = modern(every, Asking()).begin(USER, PASSWORD)
     assert one.status(create("again", contexts=contexts)) == status
 
@@ -193,15 +184,15 @@ def test_an_open_of_version_1_that_is_connected_again_by_version_2(every: Server
     assert other.open(create("lasts", contexts=again(opened, bytes(16)))) == opened
 
 
-def test_contexts_of_version_2_that_are_damaged(every: ServerProcess, modern: Modern) -> None:
-    """None of any length makes a lease."""
+def test_leases_of_any_length(every: ServerProcess, modern: Modern) -> None:
+    """Those of 32 and 52 bytes alone make a lease, and others are refused, or passed over."""
     one = modern(every, Asking(guid=b"x" * 16)).begin(USER, PASSWORD)
     for length in range(80):
-        contexts = append_context(append_context(b"", Context(b"RqLs", bytes([7]) * length)), DURABLE_2)
-        answer = one.ask(create("damaged", level=0xFF, contexts=contexts))
-        assert answer.status in (Status.SUCCESS, Status.INVALID_PARAMETER)
-        if answer.status == Status.SUCCESS and length != 32:
-            assert contexts_in(answer) == b""
+        contexts = append_context(b"", Context(b"RqLs", (bytes([length]) * 16 + bytes([7]) + bytes(63))[:length]))
+        answer = one.ask(create(f"length {length}", level=0xFF, contexts=contexts))
+        assert answer.status == (Status.SUCCESS if length in (32, 52) else Status.INVALID_PARAMETER)
+        if answer.status == Status.SUCCESS:
+            assert contexts_in(answer)[24:41] == bytes([length]) * 16 + b"\7"
 
 
 def validating(asking: Asking, most: int = 24) -> Body:
@@ -218,7 +209,7 @@ def test_what_was_agreed_on(every: ServerProcess, modern: Modern, dialect: int) 
     answer = one.ask(validating(asking))
     capabilities, _, mode, found = struct.unpack("<L16sHH", answer.data[112:])
     assert (answer.status, found, mode, one.is_signed(answer)) == (Status.SUCCESS, dialect, 1, True)
-    assert capabilities == (0 if dialect == SMB2_02 else LEASING | LARGE_MTU | (ENCRYPTION if dialect >= SMB3_00 else 0))
+    assert capabilities == capabilities_of(dialect)
 
 
 OF_3 = Asking((SMB3_00, SMB3_02))

@@ -7,7 +7,7 @@ from functools import cached_property
 
 HEADER = 64
 UNASKED = 0xFFFFFFFFFFFFFFFF
-FROM_SERVER, ASYNC, RELATED = 1, 2, 4
+FROM_SERVER, ASYNC, RELATED, REPLAY = 1, 2, 4, 0x20000000
 # the FileId of a request that means the one before it in its compound
 PREVIOUS = b"\xff" * 16
 

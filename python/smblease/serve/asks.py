@@ -6,15 +6,16 @@ from __future__ import annotations
 
 from collections.abc import Callable, Generator
 from dataclasses import dataclass
-from typing import Any, TypeVar, Union
+from typing import Any, NamedTuple, TypeVar, Union
 from uuid import UUID
 
-from smblease import Access, Acknowledgment, CreateAsk, Extent, Fault, Manager, Response, Share
+from smblease import Access, Acknowledgment, CreateAnswer, CreateAsk, Extent, Fault, Manager, Response, Share, Versions
 from smblease.contexts import NO_ASK
-from smblease.manager_decisions import Decisions, Opened
+from smblease.manager_decisions import Decisions
 from smblease.serve.node import Node
 from smblease.serve.opens import ManagerClient, Open
 from smblease.serve.packets import Answer
+from smblease.serve.status_error import StatusError
 
 Found = TypeVar("Found")
 
@@ -27,11 +28,32 @@ def nothing() -> None:
     """The effect of what has none."""
 
 
+@dataclass(frozen=True)
+class Wanted:
+    """What a create asks the manager for, and what version 2 adds to that: its create contexts (2.2.13.2), of either version, and
+    the milliseconds that an open of DH2Q lasts without its connection."""
+
+    ask: CreateAsk = NO_ASK
+    contexts: bytes = b""
+    timeout: int = 0
+
+
+NOTHING_WANTED = Wanted()
+
+
+class Granted(NamedTuple):
+    """A create that the manager granted, and the create contexts of its answer (2.2.14.2)."""
+
+    file_id: int
+    answer: CreateAnswer
+    contexts: bytes
+
+
 class Asked:
     """`call` gives it to a manager under a tag; `effect` is done where it goes on, at that place in the order of decisions. It
     may wait on the file, where it is about one."""
 
-    __slots__ = ("client", "node", "call", "effect", "is_new_open", "closes", "is_free", "starts_over")
+    __slots__ = ("client", "node", "call", "effect", "is_new_open", "closes", "is_free", "starts_over", "timeout")
 
     def __init__(self, client: ManagerClient, node: Node | None, call: Callable[[Manager, int], Decisions],
                  effect: Callable[[], object] = nothing, is_new_open: bool = False, closes: int | None = None,
@@ -41,10 +63,33 @@ class Asked:
         self.is_new_open, self.closes, self.is_free = is_new_open, closes, is_free
         # whether it may be taken back while it waits, by StartOver
         self.starts_over = False
+        self.timeout = 0
+
+    def note(self, versions: Versions, tag: int) -> None:
+        """What follows versions is told before the manager."""
+        if self.closes is not None:
+            versions.closing(self.client.number, tag, self.closes)
 
     @property
     def file(self) -> int:
         return self.node.number if self.node else 0
+
+
+class Creating(Asked):
+    """A create, whose CreateGuid its client may have used by now (3.3.5.9.10)."""
+
+    __slots__ = ("_contexts",)
+
+    def __init__(self, client: ManagerClient, node: Node, access: Access, share: Share, wanted: Wanted) -> None:
+        ask = wanted.ask
+        super().__init__(client, node, lambda manager, tag: manager.create(client.number, tag, node.number, access, share, ask),
+                         is_new_open=ask.reconnect is None)
+        self._contexts, self.timeout = wanted.contexts, wanted.timeout
+
+    def note(self, versions: Versions, tag: int) -> None:
+        status = versions.asked(self.client.number, tag, self._contexts).status
+        if status is not None:
+            raise StatusError(status)
 
 
 class Changing(Asked):
@@ -112,9 +157,8 @@ Handling = Waits[Answer]
 Steps = Waits[None]
 
 
-def to_open(client: ManagerClient, node: Node, access: Access, share: Share, ask: CreateAsk, starts_over: bool = False) -> Asked:
-    asked = Asked(client, node, lambda manager, tag: manager.create(client.number, tag, node.number, access, share, ask),
-                  nothing, ask.reconnect is None)
+def to_open(client: ManagerClient, node: Node, access: Access, share: Share, wanted: Wanted, starts_over: bool = False) -> Asked:
+    asked = Creating(client, node, access, share, wanted)
     asked.starts_over = starts_over
     return asked
 
@@ -134,10 +178,11 @@ def to_close(client: ManagerClient, node: Node, file_id: int, effect: Callable[[
     return Asked(client, node, lambda manager, tag: manager.close_open(client.number, tag, file_id), effect, closes=file_id)
 
 
-def opening(client: ManagerClient, node: Node, access: Access, share: Share, ask: CreateAsk = NO_ASK) -> Waits[Opened]:
-    opened = yield to_open(client, node, access, share, ask)
-    assert isinstance(opened, Opened)
-    return opened
+def opening(client: ManagerClient, node: Node, access: Access, share: Share,
+            wanted: Wanted = NOTHING_WANTED) -> Waits[Granted]:
+    granted = yield to_open(client, node, access, share, wanted)
+    assert isinstance(granted, Granted)
+    return granted
 
 
 def writing(client: ManagerClient, node: Node, file_id: int, effect: Callable[[], object], fits: bool = True) -> Steps:
@@ -150,7 +195,8 @@ def closing(client: ManagerClient, node: Node, file_id: int) -> Steps:
 
 def refused(client: ManagerClient, file_id: int, call: Callable[[Manager, int, int, int], Decisions]) -> Steps:
     """A request by a FileId that the shell doesn't know. The manager refuses it; what waits may go on by that."""
-    yield Asked(client, None, lambda manager, tag: call(manager, client.number, tag, file_id))
+    yield Asked(client, None, lambda manager, tag: call(manager, client.number, tag, file_id),
+                closes=file_id if call is Manager.close_open else None)
 
 
 def acknowledging(client: ManagerClient, body: bytes) -> Waits[Response]:

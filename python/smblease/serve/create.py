@@ -1,42 +1,56 @@
 """CREATE (3.3.5.9): names and what else the shell decides, and the manager's create."""
 from __future__ import annotations
 
-import struct
+from typing import TYPE_CHECKING
 
-from smblease import Access, Context, CreateAnswer, CreateAsk, LeaseState, Share, Status, append_context, opens_conflict
-from smblease.drive.headers import HEADER
-from smblease.manager_decisions import Opened
-from smblease.serve.access import ALL_ACCESS, READING, SHARE_READ, WRITING, is_of_attributes, is_stat, writes
-from smblease.serve.asks import Handling, StartOver, Steps, Waits, opening, to_open
-from smblease.serve.attributes import attributes_of
-from smblease.serve.create_by_dialect import heeded
-from smblease.serve.create_parameters import (ALLOCATION, CREATE, CREATED, DELETE_ON_CLOSE, DIRECTORY_FILE, MAKING, MOST_ACCESS,
-                                              NON_DIRECTORY_FILE, ON_DISK, OPENED, OVERWRITE, OVERWRITE_IF, OVERWRITTEN, RWH,
-                                              SUPERSEDE, SUPERSEDED, WRITE_THROUGH, CreateParameters, check, conflicts, level_of,
+from smblease import CreateAsk, LeaseState, Share, Status, opens_conflict
+from smblease.serve.access import READING, SHARE_READ, WRITING, is_of_attributes, is_stat, writes
+from smblease.serve.app_instances import AppInstances
+from smblease.serve.asks import Granted, Handling, StartOver, Steps, Waits, to_open
+from smblease.serve.create_answers import oplock_contexts, reply
+from smblease.serve.create_by_dialect import Arrivals, heeded_at_2_0_2
+from smblease.serve.create_parameters import (ALLOCATION, CREATE, CREATED, DELETE_ON_CLOSE, DIRECTORY_FILE, MAKING,
+                                              NON_DIRECTORY_FILE, OPENED, OVERWRITE, OVERWRITE_IF, OVERWRITTEN, SUPERSEDE,
+                                              SUPERSEDED, WRITE_THROUGH, CreateParameters, check, conflicts, level_of,
                                               oplock_state, read_parameters)
 from smblease.serve.dialects import Dialect
 from smblease.serve.kept_attributes import HIDDEN, READ_ONLY, SYSTEM, keep
 from smblease.serve.node import Node
 from smblease.serve.opens import BATCH, LEASE, NO_LEVEL, ManagerClient, Open
-from smblease.serve.packets import Answer
+from smblease.serve.reconnecting import Reconnecting
 from smblease.serve.request import Handlers, Request
 from smblease.serve.resizing import resizing
 from smblease.serve.status_error import StatusError
 
+if TYPE_CHECKING:
+    from smblease.serve.server import Server
+
 MOST_OPENS = 16384
-SUCCESS = Status.SUCCESS
 ACTIONS = {SUPERSEDE: SUPERSEDED, OVERWRITE: OVERWRITTEN, OVERWRITE_IF: OVERWRITTEN}
-# An answer up to its contexts.
-DONE = struct.Struct("<HBBL52s4xQQLL")
 
 
 class Create(Handlers):
+    def __init__(self, server: Server) -> None:
+        super().__init__(server)
+        self._arrivals, self._reconnecting, self._app_instances = Arrivals(server), Reconnecting(server), AppInstances(server)
+
     def create(self, request: Request) -> Handling:
-        wanted = read_parameters(request.message)
-        if request.connection.dialect is not Dialect.SMB_2_1:
-            wanted = heeded(wanted, request.connection.dialect)
+        wanted, dialect = read_parameters(request.message), request.connection.dialect
+        if dialect is Dialect.SMB_2_0_2:
+            wanted = heeded_at_2_0_2(wanted)
+        if dialect in (Dialect.SMB_2_0_2, Dialect.SMB_2_1) or not wanted.text:
+            return self._create(request, wanted)
+        return self._arrived(request, wanted)
+
+    def _arrived(self, request: Request, wanted: CreateParameters) -> Handling:
+        with self._arrivals.arrive(request, wanted) as arrival:
+            if arrival.again is not None:
+                return (yield from self._reconnecting.answer_again(request, arrival.wanted, arrival.again))
+            return (yield from self._create(request, arrival.wanted))
+
+    def _create(self, request: Request, wanted: CreateParameters) -> Handling:
         if wanted.ask.reconnect is not None:
-            return (yield from self._reconnect(request, wanted))
+            return (yield from self._reconnecting.reconnect(request, wanted))
         check(wanted, self._server.settings.limit)
         if len(self._server.opens) >= MOST_OPENS:
             raise StatusError(Status.INSUFFICIENT_RESOURCES)
@@ -53,6 +67,10 @@ class Create(Handlers):
         names = self._server.names
         node = names.find(wanted.path)
         action = self._action(wanted, node)
+        if node is None:
+            yield from self._server.folder_leases.making(request, wanted)
+            node = names.find(wanted.path)
+            action = self._action(wanted, node)
         is_folder = node.is_folder if node else bool(wanted.options & DIRECTORY_FILE)
         if is_folder or wanted.options & DIRECTORY_FILE:
             self._check_folder(request, wanted, node)
@@ -62,12 +80,14 @@ class Create(Handlers):
         try:
             if action == CREATED or wanted.empties:
                 self._check_attributes(wanted, node, action)
-            if is_folder:
-                return self._answer(wanted, self._folder(request, wanted, node), action, b"")
-            if self._server.record.is_kept:
+            if self._server.record.is_kept and not is_folder:
                 self._server.record.start(node)
-            opened, contexts = yield from self._file(request, wanted, node, action)
-            return self._answer(wanted, opened, action, contexts)
+            opened, contexts = yield from (self._folder(request, wanted, node) if is_folder
+                                           else self._file(request, wanted, node, action))
+            opened.action = action
+            if action != OPENED:
+                self._made(wanted, opened)
+            return reply(wanted, opened, contexts)
         except (StatusError, OSError):
             if action == CREATED and not node.opens and not node.is_gone:
                 names.remove(node)
@@ -85,6 +105,15 @@ class Create(Handlers):
             keep(node.file, wanted.kept_attributes(node.is_folder))
         elif wanted.empties and node.kept.of(node.is_folder) & ~wanted.attributes & (HIDDEN | SYSTEM):
             raise StatusError(Status.ACCESS_DENIED)
+
+    def _made(self, wanted: CreateParameters, opened: Open) -> None:
+        """What a file has that was made or emptied."""
+        node = opened.node
+        if opened.action != CREATED:
+            node.allocated = 0
+            self._server.names.set_read_only(node, bool(wanted.attributes & READ_ONLY))
+        if ALLOCATION in wanted.others and not node.is_folder:
+            node.allocated = wanted.allocation
 
     def _action(self, wanted: CreateParameters, node: Node | None) -> int:
         if node is None:
@@ -113,23 +142,35 @@ class Create(Handlers):
 
     @staticmethod
     def _check_folder(request: Request, wanted: CreateParameters, node: Node | None) -> None:
-        """Folders are the shell's alone: they have no leases."""
+        """The key of a lease of a file isn't one of a folder's."""
         if node and not node.is_folder:
             raise StatusError(Status.NOT_A_DIRECTORY)
         if node and wanted.options & NON_DIRECTORY_FILE:
             raise StatusError(Status.FILE_IS_A_DIRECTORY)
         lease = request.client.leases.get(wanted.key) if wanted.key else None
-        if wanted.empties or lease:
+        if wanted.empties or lease and lease.node is not node:
             raise StatusError(Status.INVALID_PARAMETER)
 
-    def _folder(self, request: Request, wanted: CreateParameters, node: Node) -> Open:
+    def _folder(self, request: Request, wanted: CreateParameters, node: Node) -> Waits[tuple[Open, bytes]]:
+        """Folders are the shell's alone, but for leases of version 2."""
         if conflicts(wanted, node.opens):
-            raise StatusError(Status.SHARING_VIOLATION)
-        return self._kept(request, wanted, node)
+            yield from self._resolve_conflicts(request, wanted, node)
+        if not wanted.has_second_lease:
+            return self._kept(request, wanted, node), b""
+        path, client = node.path, request.client
+        granted = yield from self._server.folder_leases.opening(request, wanted, node)
+        yield from self._check_granted(request, wanted, node, client, granted, path)
+        opened = self._granted(request, wanted, node, client, granted, False)
+        if node.is_gone or node.is_deleting or opened.deletes:
+            yield from self._after_grant(request, wanted, opened, OPENED)
+        return opened, granted.contexts
 
     def _file(self, request: Request, wanted: CreateParameters, node: Node, action: int) -> Waits[tuple[Open, bytes]]:
         """An open of a file, and the contexts of its reply."""
         server, access, path = self._server, wanted.access, node.path
+        if wanted.is_of_3 and wanted.app_instance:
+            yield from self._app_instances.make_way(request, wanted, node)
+            self._check_there(node, path)
         # (each open holds the file, as this create does)
         if node.users > 1 and conflicts(wanted, node.opens):
             yield from self._resolve_conflicts(request, wanted, node)
@@ -144,24 +185,39 @@ class Create(Handlers):
         client, ask = self._manager_client(request, wanted, node)
         hides = not wanted.share & SHARE_READ and server.looking.hides(node, wanted.share)
         try:
-            decided = yield to_open(client, node, *wanted.rights_beside(hides), ask, starts_over=True)
-            if not request.has_tree():
-                yield from self._refuse_late(request, client, node, decided)
-            # (what the shell guards may have been opened while it waited)
-            if node.users > 1 and (conflicts(wanted, node.opens) or hides and node.opens.reading):
-                yield from server.close_in_manager(client, node, decided.file_id)
-                raise StatusError(Status.SHARING_VIOLATION)
-            if node.path != path:
-                yield from server.close_in_manager(client, node, decided.file_id)
-                raise StartOver
+            granted = yield to_open(client, node, *wanted.rights_beside(hides), wanted.asking(ask), starts_over=True)
+            yield from self._check_granted(request, wanted, node, client, granted, path, hides)
         except (StatusError, StartOver):
             if client.guid is None:
                 server.free(client)
             raise
-        opened = self._granted(request, wanted, node, client, decided, hides)
+        opened = self._granted(request, wanted, node, client, granted, hides)
         if node.is_gone or node.is_deleting or wanted.empties or opened.deletes:
             yield from self._after_grant(request, wanted, opened, action)
-        return opened, decided.answer.write() if not client.open else self._oplock_contexts(opened)
+        return opened, oplock_contexts(opened, granted.contexts) if client.open else granted.contexts
+
+    def _check_granted(self, request: Request, wanted: CreateParameters, node: Node, client: ManagerClient, granted: Granted,
+                       path: str, hides: bool = False) -> Steps:
+        """What comes too late, since its tree or session is gone, another open is there, or another name, is closed again."""
+        fault: StatusError | StartOver | None = None
+        if not request.has_tree():
+            fault = self._late(request)
+        # (what the shell guards may have been opened while it waited)
+        elif node.users > 1 and (conflicts(wanted, node.opens) or hides and node.opens.reading):
+            fault = StatusError(Status.SHARING_VIOLATION)
+        elif node.path != path:
+            fault = StartOver()
+        if fault:
+            yield from self._server.close_in_manager(client, node, granted.file_id)
+            raise fault
+
+    @staticmethod
+    def _late(request: Request) -> StatusError | None:
+        try:
+            request.require_tree()
+        except StatusError as fault:
+            return fault
+        return None
 
     @staticmethod
     def _is_shared(wanted: CreateParameters, node: Node) -> bool:
@@ -204,14 +260,6 @@ class Create(Handlers):
             yield from self._server.close_open(opened)
             raise
 
-    def _refuse_late(self, request: Request, client: ManagerClient, node: Node, decided: Opened) -> Steps:
-        """What is answered once its tree or session is gone: that is closed again."""
-        try:
-            request.require_tree()
-        except StatusError:
-            yield from self._server.close_in_manager(client, node, decided.file_id)
-            raise
-
     def _break_for_deletion(self, request: Request, opened: Open) -> Steps:
         """Who deletes at its close has all others give up handles first."""
         if opened.deletes and len(opened.node.opens) > 1:
@@ -243,24 +291,32 @@ class Create(Handlers):
     def _may_write(opened: Open) -> bool:
         return bool(opened.lease and LeaseState.W in opened.lease.state)
 
-    def _granted(self, request: Request, wanted: CreateParameters, node: Node, client: ManagerClient, decided: Opened,
+    def _granted(self, request: Request, wanted: CreateParameters, node: Node, client: ManagerClient, granted: Granted,
                  hides: bool) -> Open:
         """The open that the manager made."""
-        opened = self._new(request, wanted, node, decided.file_id)
-        opened.client, opened.is_durable, opened.rights = client, decided.answer.durable, wanted.rights_beside(hides)
+        opened = self._new(request, wanted, node, granted.file_id)
+        opened.client, opened.is_durable, opened.rights = client, granted.answer.durable, wanted.rights_beside(hides)
         opened.is_lent = wanted.empties or not wanted.access & (READING | WRITING)
         opened.hides_reading = hides
         client.opens += 1
         if client.guid is None:
             client.open = opened
-        key = decided.answer.key
+        key = granted.answer.key
         if key:
             opened.key = key
-            opened.level = LEASE if client.guid else level_of(wanted.level, decided.answer.state)
+            opened.level = LEASE if client.guid else level_of(wanted.level, granted.answer.state)
+        if opened.is_durable and wanted.create_guid:
+            self._note_create_guid(request, wanted, opened, wanted.create_guid)
         self._keep(opened)
         if key:
-            self._server.leases.granted(client, opened, decided.answer)
+            self._server.leases.granted(client, opened, granted.answer, granted.contexts)
         return opened
+
+    def _note_create_guid(self, request: Request, wanted: CreateParameters, opened: Open, create_guid: bytes) -> None:
+        opened.create_guid, opened.timeout = create_guid, wanted.timeout
+        opened.app_instance, opened.client_guid = wanted.app_instance, request.client.guid
+        if opened.client and opened.client.guid is None and request.client.guid:
+            self._server.clients.note_create_guid(request.client.guid, create_guid, opened.client)
 
     def _kept(self, request: Request, wanted: CreateParameters, node: Node) -> Open:
         """An open of the shell's own."""
@@ -272,6 +328,9 @@ class Create(Handlers):
         opened = Open(file_id, node, wanted.access, wanted.share, session, request.tree_of(session))
         opened.deletes = bool(wanted.options & DELETE_ON_CLOSE)
         opened.writes_through = bool(wanted.options & WRITE_THROUGH)
+        opened.has_written = wanted.empties
+        if wanted.is_of_3:
+            opened.parent_key = wanted.parent_key
         return opened
 
     def _keep(self, opened: Open) -> Open:
@@ -280,68 +339,3 @@ class Create(Handlers):
         opened.node.opens.add(opened)
         self._server.opens[opened.file_id] = opened
         return opened
-
-    @staticmethod
-    def _oplock_contexts(opened: Open) -> bytes:
-        return CreateAnswer(durable=opened.is_durable and opened.level == BATCH).write()
-
-    def _reconnect(self, request: Request, wanted: CreateParameters) -> Handling:
-        """A durable open is connected again (3.3.5.9.7). An oplock's has a client and a key of its own."""
-        opened = self._server.opens.get(wanted.ask.reconnect or 0)
-        if opened and opened.is_durable and opened.owner != request.session.owner:
-            raise StatusError(Status.ACCESS_DENIED)
-        if opened and opened.client and opened.client.open is opened:
-            return (yield from self._reconnect_oplock(request, wanted, opened))
-        node = self._server.names.find(wanted.path)
-        if node is None or node.is_folder:
-            is_named = opened and not opened.is_connected and opened.client is request.client and opened.key == wanted.key
-            raise StatusError(Status.INVALID_PARAMETER if is_named else Status.OBJECT_NAME_NOT_FOUND)
-        self._server.names.hold(node)
-        try:
-            decided = yield from opening(request.client, node, *wanted.rights, wanted.ask)
-            return (yield from self._reconnected(request, wanted, request.client, decided))
-        finally:
-            self._server.names.release(node)
-
-    def _reconnect_oplock(self, request: Request, wanted: CreateParameters, opened: Open) -> Handling:
-        client = opened.client
-        if client is None or opened.is_connected or wanted.ask.key and wanted.level == LEASE:
-            raise StatusError(Status.OBJECT_NAME_NOT_FOUND)
-        self._server.join(client, request.connection, f"an oplock of client {request.client.number}")
-        ask = CreateAsk(client.own_key, RWH, reconnect=opened.file_id)
-        try:
-            decided = yield from opening(client, opened.node, Access.READ_WRITE, Share.READ_WRITE, ask)
-        except StatusError:
-            self._server.forget_open(opened)
-            raise
-        return (yield from self._reconnected(request, wanted, client, decided))
-
-    def _reconnected(self, request: Request, wanted: CreateParameters, client: ManagerClient, decided: Opened) -> Handling:
-        opened = self._server.opens[decided.file_id]
-        try:
-            yield from self._refuse_late(request, client, opened.node, decided)
-        except StatusError:
-            self._server.forget_open(opened)
-            raise
-        self._server.kept.let_go(opened)
-        opened.connection, opened.session, opened.tree = request.connection, request.session, request.tree
-        if opened.client:
-            self._server.leases.granted(opened.client, opened, decided.answer)
-        return self._answer(wanted, opened, OPENED, b"" if opened.level != LEASE else decided.answer.write())
-
-    def _answer(self, wanted: CreateParameters, opened: Open, action: int, contexts: bytes) -> Answer:
-        """The reply: the manager's contexts as they are, and after them those that the shell adds."""
-        node = opened.node
-        if action in (SUPERSEDED, OVERWRITTEN):
-            node.allocated = 0
-            self._server.names.set_read_only(node, bool(wanted.attributes & READ_ONLY))
-        if ALLOCATION in wanted.others and not node.is_folder and action != OPENED:
-            node.allocated = wanted.allocation
-        found = node.shown_stat()
-        if MOST_ACCESS in wanted.others:
-            contexts = append_context(contexts, Context(MOST_ACCESS, struct.pack("<LL", 0, ALL_ACCESS)))
-        if ON_DISK in wanted.others:
-            contexts = append_context(contexts, Context(ON_DISK, struct.pack("<QQ16s", found.st_ino, found.st_dev, b"")))
-        body = DONE.pack(89, opened.level, 0, action, attributes_of(found, node.kept, node.allocated), opened.file_id,
-                         opened.file_id, HEADER + 88 if contexts else 0, len(contexts))
-        return Answer(SUCCESS, body + contexts, opened=opened.file_id)

@@ -12,8 +12,8 @@ class FileNumbers:
     """A file has its number as long as anybody holds it, under whichever of its names, and after that until many others were
     closed."""
 
-    def __init__(self) -> None:
-        self._next = itertools.count(1)
+    def __init__(self, first: int = 1) -> None:
+        self._next = itertools.count(first)
         self._held: dict[Identity, tuple[int, int]] = {}
         self._closed: dict[Identity, int] = {}
 

@@ -24,7 +24,8 @@ class KeptOpens:
 
     def keep(self, opened: Open) -> None:
         server = self._server
-        opened.timer = server.loop.call_later(server.settings.durable_timer, lambda: server.scavenge(opened.file_id))
+        seconds = opened.timeout / 1000 if opened.timeout else server.settings.durable_timer
+        opened.timer = server.loop.call_later(seconds, lambda: server.scavenge(opened.file_id))
         self._opens[opened.file_id] = opened
 
     def limit(self, opens: list[Open]) -> None:

@@ -21,22 +21,25 @@ OPLOCK = struct.Struct("<HBBLQQ")
 
 
 class Leases(Handlers):
-    def granted(self, client: ManagerClient, opened: Open, answer: CreateAnswer) -> None:
-        """A reply grants a lease. While a break is in progress nothing new is believed."""
+    def granted(self, client: ManagerClient, opened: Open, answer: CreateAnswer, contexts: bytes) -> None:
+        """A reply grants a lease, by these contexts. While a break is in progress nothing new is believed."""
         if answer.key is None:
             return
         lease = client.leases.setdefault(answer.key, LeaseSeen(answer.key, opened.node, answer.state, client.guid is None))
         lease.opens[opened] = None
         lease.become(answer.state)
+        lease.answered(contexts)
         opened.node.opens.lease_changed(lease)
         if not answer.breaking:
             self._server.record.believes(client, lease, answer.state)
 
-    def broken(self, client: ManagerClient, notification: Notification) -> None:
+    def broken(self, client: ManagerClient, notification: Notification, message: bytes) -> None:
+        """`message` is the notification as it is sent, with its NewEpoch."""
         lease, state = client.leases.get(notification.key), notification.new
         if lease is None or not client.is_connected:
             # It is on its way to a client that is cut already.
             return
+        lease.told(message)
         if notification.ack_required:
             lease.broken_by, lease.broken_to = client.sent, state
             self._server.stop_timer(lease)
@@ -49,7 +52,7 @@ class Leases(Handlers):
             self._oplock_broken(client.open, state, notification.ack_required)
         else:
             opened = next((it for it in lease.opens if it.connection), None)
-            self._notify(opened, client.connections[0], notification.write())
+            self._notify(opened, client.connections[0], message)
 
     @staticmethod
     def _notify(opened: Open | None, other: Connection, body: bytes) -> None:

@@ -23,6 +23,9 @@ class ManagerClients:
         self._next, self._next_of_shell = itertools.count(1), itertools.count(SHELLS)
         self.by_number: dict[int, ManagerClient] = {}
         self._by_guid: dict[bytes, ManagerClient] = {}
+        # oplocks by the ClientGuid and the CreateGuid of their opens, and these by the oplock
+        self._by_create_guid: dict[tuple[bytes, bytes], ManagerClient] = {}
+        self._create_guids: dict[int, tuple[bytes, bytes]] = {}
 
     def numbered(self, number: int) -> ManagerClient | None:
         return self.by_number.get(number)
@@ -41,7 +44,18 @@ class ManagerClients:
             self._by_guid[guid] = client
         return client
 
+    def of_create_guid(self, guid: bytes | None, create_guid: bytes | None) -> ManagerClient | None:
+        """The oplock whose open this ClientGuid made under this CreateGuid."""
+        return self._by_create_guid.get((guid or b"", create_guid or b""))
+
+    def note_create_guid(self, guid: bytes, create_guid: bytes, oplock: ManagerClient) -> None:
+        self._by_create_guid[guid, create_guid] = oplock
+        self._create_guids[oplock.number] = guid, create_guid
+
     def free(self, client: ManagerClient) -> None:
         del self.by_number[client.number]
+        names = self._create_guids.pop(client.number, None)
+        if names and self._by_create_guid.get(names) is client:
+            del self._by_create_guid[names]
         if client.guid is not None:
             del self._by_guid[client.guid]

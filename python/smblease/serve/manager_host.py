@@ -10,13 +10,13 @@ from collections.abc import Callable, Sequence
 from functools import partial
 from typing import TYPE_CHECKING, Any
 
-from smblease import MachineLost, Manager, Rules, Status
+from smblease import MachineLost, Manager, Rules, Status, Versions
 from smblease.drive.headers import Unreadable
 from smblease.faults import ToolFault
 from smblease.manager_decisions import (Acknowledged, Breaks, Closed, Decision, Decisions, Ended, GoesOn, LeftBehind,
                                         NotAcknowledged, Opened, Refused, Waits, Withdrawn)
-from smblease.serve.asks import (Acknowledging, Asked, Changing, Emptying, Handling, Meanwhile, Pause, StartOver, Steps,
-                                 Yielded)
+from smblease.serve.asks import (Acknowledging, Asked, Changing, Emptying, Granted, Handling, Meanwhile, Pause, StartOver,
+                                 Steps, Yielded)
 from smblease.serve.disk_status import status_of
 from smblease.serve.packets import Answer
 from smblease.serve.status_error import EXHAUSTED, RefusedByManager, StatusError
@@ -27,6 +27,7 @@ if TYPE_CHECKING:
 
 
 LOST = (MachineLost, *EXHAUSTED)
+AS_DECIDED = itertools.repeat(None)
 
 
 class Task:
@@ -61,10 +62,12 @@ class Task:
 class ManagerHost:
     """Decisions of a call that is made while others are carried out come after those that are left."""
 
-    def __init__(self, rules: Rules, server: Server) -> None:
+    def __init__(self, rules: Rules, server: Server, has_versions: bool = False) -> None:
+        """`has_versions`: there are clients with leases and durable opens of version 2."""
         self._rules = rules
         self._server = server
         self.manager = Manager(rules)
+        self.versions = Versions(self.manager) if has_versions else None
         self._tags = itertools.count(1)
         # by their tags, of which no two are the same
         self._waiting: dict[int, Task] = {}
@@ -72,15 +75,15 @@ class ManagerHost:
         self._emptying: dict[int, Task] = {}
         # creates that stepped back for such a one, by its tag; the manager doesn't know of them
         self._stepped_back: dict[int, list[Task]] = {}
-        # an acknowledgment with its task
-        self._decisions: deque[tuple[Decision | Pause, Task | None]] = deque()
+        # an acknowledgment with its task; and what is sent, where that isn't what the decision has
+        self._decisions: deque[tuple[Decision | Pause, Task | None, bytes | None]] = deque()
         self._paused: dict[Pause, Task] = {}
         self.is_draining = False
-        self._carries: dict[type[Any], Callable[[Any, Task | None], None]] = {
+        self._carries: dict[type[Any], Callable[[Any, Task | None, bytes | None], None]] = {
             GoesOn: self._goes_on, Opened: self._goes_on, Closed: self._goes_on, Refused: self._refused, Withdrawn: self._refused,
             Acknowledged: self._acknowledged, NotAcknowledged: self._acknowledged, Pause: self._go_on,
-            Breaks: lambda it, _: server.broken(it), Ended: lambda it, _: server.ended(it.file_id),
-            Waits: lambda _, __: None, LeftBehind: lambda _, __: None}
+            Breaks: lambda it, _, sent: server.broken(it, sent), Ended: lambda it, _, __: server.ended(it.file_id),
+            Waits: lambda _, __, ___: None, LeftBehind: lambda _, __, ___: None}
 
     @property
     def waiting(self) -> list[Task]:
@@ -98,23 +101,39 @@ class ManagerHost:
 
     def call(self, call: Callable[[Manager], Decisions | None]) -> Decisions:
         """What a call decides is carried out by `drain`."""
-        decisions = self._called(call)
-        self._decisions.extend((it, None) for it in decisions)
-        return decisions
+        told = self._called(call)
+        self._decisions.extend((it, None, sent) for it, sent in told)
+        return tuple(it for it, _ in told)
 
-    def _called(self, call: Callable[..., Decisions | None], *more: object) -> Decisions:
+    def cut(self, client: int) -> None:
+        """What the client asked and has no answer is forgotten."""
+        self.call(lambda manager: manager.cut(client))
+        if self.versions:
+            self.versions.forget(client)
+
+    def _called(self, call: Callable[..., Decisions | None], *more: object) -> list[tuple[Decision, bytes | None]]:
+        """What is decided, each with what is sent for it: it is followed before the manager is called again."""
         try:
-            return call(self.manager, *more) or ()
+            decisions, versions = call(self.manager, *more) or (), self.versions
+            if versions is None:
+                return list(zip(decisions, AS_DECIDED))
+            return [(it, versions.follow(place, self._timeout(it))) for place, it in enumerate(decisions)]
         except LOST:
             self._lost()
-            return ()
+            return []
+
+    def _timeout(self, decision: Decision) -> int:
+        """Milliseconds that an open lasts without its connection, where its client asks for that."""
+        task = self._waiting.get(decision.tag) if isinstance(decision, Opened) else None
+        return task.asked.timeout if task and isinstance(task.asked, Asked) else 0
 
     def _lost(self) -> None:
         """There was no memory: nobody knows any longer who has what open, or caches it."""
         self.manager = Manager(self._rules)
+        self.versions = Versions(self.manager) if self.versions else None
         self._stepped_back.clear()
         self._decisions.clear()
-        self._decisions.extend((it, None) for it in self._paused)
+        self._decisions.extend((it, None, None) for it in self._paused)
         self.abandon({it.asked.client.number for it in self._waiting.values() if it.asked}, Status.USER_SESSION_DELETED)
         self._server.lost()
 
@@ -127,8 +146,8 @@ class ManagerHost:
             while decisions or self._emptying:
                 try:
                     if decisions:
-                        decision, task = decisions.popleft()
-                        carries[type(decision)](decision, task)
+                        decision, task, sent = decisions.popleft()
+                        carries[type(decision)](decision, task, sent)
                     elif not self._goes_on_to_empty():
                         break
                 except EXHAUSTED:
@@ -154,11 +173,30 @@ class ManagerHost:
         """A part of a client goes, with these opens and what these tasks wait for; what closes an open goes on."""
         asking = [it for it in tasks if it.asked and it.asked.client is client and it.tag in self._waiting
                   and isinstance(it.asked, Asked) and it.asked.closes is None]
-        self.call(lambda manager: manager.leave(client.number, file_ids, [it.tag for it in asking]))
+        self._leave(client.number, file_ids, [it.tag for it in asking])
         for task in asking:
             if self._waiting.pop(task.tag, None):
                 self._refuse(task, StatusError(Status.USER_SESSION_DELETED))
         self.let_go(tasks)
+
+    def _leave(self, client: int, file_ids: list[int], tags: list[int]) -> None:
+        self.call(lambda manager: manager.leave(client, file_ids, tags))
+        self._forget(client, tags)
+
+    def take_tag(self) -> int:
+        """One under which the manager is asked nothing."""
+        return next(self._tags)
+
+    def forget(self, client: int, tag: int) -> None:
+        """What was noted under such a tag."""
+        self._forget(client, [tag])
+
+    def _forget(self, client: int, tags: list[int]) -> None:
+        try:
+            if self.versions:
+                self.versions.leave(client, tags)
+        except LOST:
+            self._lost()
 
     def let_go(self, tasks: Sequence[Task]) -> None:
         """What these wait for that isn't the manager's is taken back."""
@@ -176,7 +214,7 @@ class ManagerHost:
 
     def resume(self, pauses: list[Pause]) -> None:
         """These go on once what is decided by now is carried out."""
-        self._decisions.extend((it, None) for it in pauses)
+        self._decisions.extend((it, None, None) for it in pauses)
         pauses.clear()
 
     def abandon(self, clients: set[int], status: Status) -> None:
@@ -191,12 +229,12 @@ class ManagerHost:
 
     # Decisions
 
-    def _go_on(self, pause: Pause, _: Task | None) -> None:
+    def _go_on(self, pause: Pause, _: Task | None, __: object) -> None:
         paused = self._resumed(pause)
         if paused:
             self._send(paused, None)
 
-    def _acknowledged(self, decision: Acknowledged | NotAcknowledged, task: Task | None) -> None:
+    def _acknowledged(self, decision: Acknowledged | NotAcknowledged, task: Task | None, _: object) -> None:
         if task is None or task.is_over:
             return
         self._server.sent(decision.client)
@@ -205,7 +243,7 @@ class ManagerHost:
         else:
             self._refuse(task, RefusedByManager(Status(decision.status)))
 
-    def _refused(self, decision: Refused | Withdrawn, _: Task | None) -> None:
+    def _refused(self, decision: Refused | Withdrawn, _: Task | None, __: object) -> None:
         task = self._waiting.pop(decision.tag, None)
         if task and task.decided is not None:
             task.decided.append(decision)
@@ -217,7 +255,7 @@ class ManagerHost:
             self._server.sent(decision.client)
             self._refuse(task, RefusedByManager(Status(decision.status)))
 
-    def _goes_on(self, decision: Opened | GoesOn | Closed, _: Task | None) -> None:
+    def _goes_on(self, decision: Opened | GoesOn | Closed, _: Task | None, sent: bytes | None) -> None:
         task = self._waiting.pop(decision.tag, None)
         if task and task.decided is not None:
             task.decided.append(decision)
@@ -230,12 +268,13 @@ class ManagerHost:
         asked = task.asked
         assert isinstance(asked, Asked)
         fault: StatusError | None = None
-        found: object = decision
         # pylint: disable-next=unidiomatic-typecheck  # (of what it isn't isinstance finds that later)
         if type(decision) is not Opened:
             found, fault = self._done(asked.effect)
-        elif asked.is_new_open and asked.node and self._server.record.is_kept:
-            fault = self._done(partial(self._server.record.opened, asked.client, asked.node))[1]
+        else:
+            found = Granted(decision.file_id, decision.answer, decision.answer.write() if sent is None else sent)
+            if asked.is_new_open and asked.node and self._server.record.is_kept:
+                fault = self._done(partial(self._server.record.opened, asked.client, asked.node))[1]
         self._server.sent(decision.client)
         if fault:
             self._refuse(task, fault)
@@ -287,11 +326,11 @@ class ManagerHost:
             asked = task.asked
             if isinstance(asked, Asked) and asked.starts_over and asked.node is emptying.node and not task.has_stepped_back:
                 taken_back = Withdrawn(asked.client.number, task.tag)
-                decisions = self._called(partial(self._take_back, asked, task.tag))
-                if taken_back in decisions:
+                told = self._called(partial(self._take_back, asked, task.tag))
+                if any(it == taken_back for it, _ in told):
                     task.has_stepped_back = True
                     self._stepped_back.setdefault(tag, []).append(task)
-                self._decisions.extend((it, None) for it in decisions if it != taken_back)
+                self._decisions.extend((it, None, sent) for it, sent in told if it != taken_back)
 
     @staticmethod
     def _take_back(asked: Asked, tag: int, manager: Manager) -> Decisions:
@@ -368,29 +407,43 @@ class ManagerHost:
 
     def _put(self, task: Task, asked: Asked) -> bool:
         tag = next(self._tags)
+        fault = self._noted(asked, tag) if self.versions else None
+        if fault:
+            self._refuse(task, fault)
+            return True
         task.asked, task.tag = asked, tag
         self._waiting[tag] = task
-        try:
-            decisions = asked.call(self.manager, tag)
-        except LOST:
-            self._lost()
-            return False
-        for it in decisions:
-            self._decisions.append((it, None))
+        told = self._called(asked.call, tag)
+        for it, sent in told:
+            self._decisions.append((it, None, sent))
             if task.decided is not None and isinstance(it, (Breaks, Waits)):
                 task.decided.append(it)
-        return bool(decisions)
+        if not told:
+            # (of a client that isn't connected)
+            self._forget(asked.client.number, [tag])
+        return bool(told)
+
+    def _noted(self, asked: Asked, tag: int) -> StatusError | None:
+        """Why it is refused before the manager is asked."""
+        try:
+            if self.versions:
+                asked.note(self.versions, tag)
+        except StatusError as refused:
+            return refused
+        except EXHAUSTED:
+            return StatusError(Status.INSUFFICIENT_RESOURCES)
+        return None
 
     def _acknowledge(self, task: Task, asked: Acknowledging) -> bool:
         """It is answered first."""
         client, message = asked.client.number, asked.message
         task.asked = None
-        decisions = self._called(Manager.acknowledge, client, message) if message \
+        told = self._called(Manager.acknowledge, client, message) if message \
             else self._called(Manager.acknowledge_malformed, client)
-        self._decisions.extend((it, None if place else task) for place, it in enumerate(decisions))
+        self._decisions.extend((it, None if place else task, sent) for place, (it, sent) in enumerate(told))
         if task.decided is not None:
-            task.decided += (it for it in decisions if isinstance(it, (Acknowledged, Breaks)))
-        return bool(decisions)
+            task.decided += (it for it, _ in told if isinstance(it, (Acknowledged, Breaks)))
+        return bool(told)
 
     def _wait_for(self, task: Task, asked: Meanwhile) -> None:
         task.asked = None

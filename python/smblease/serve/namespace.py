@@ -19,6 +19,8 @@ from smblease.serve.streams import Identity, Streams
 
 LOG = logging.getLogger("serve")
 MOST_WARNINGS = 1000
+# Numbers of folders are far from those of files, which a record has from 1 on.
+FOLDERS = 1 << 62
 
 
 class Namespace:
@@ -29,7 +31,7 @@ class Namespace:
         self.disk, self._streams, self._shown = disk, streams, shown
         # by their paths
         self._held: dict[str, Node] = {}
-        self._numbers = FileNumbers()
+        self._numbers, self._numbers_of_folders = FileNumbers(), FileNumbers(FOLDERS)
         self._left_out: set[bytes] = set()
         # the other half of the descriptors is for connections, but for some that are needed for a moment
         limit = resource.getrlimit(resource.RLIMIT_NOFILE)[0]
@@ -73,6 +75,11 @@ class Namespace:
 
     def held_at(self, path: str) -> Node | None:
         return self._held.get(path)
+
+    def held_folder_of(self, path: str) -> Node | None:
+        """The folder that a new name of this path is for, if it is held."""
+        folder = self.disk.locate_folder(split(path.partition(":")[0])[0])
+        return None if folder is None else self._held.get(folder)
 
     def opened_below(self, folder: Node) -> list[Node]:
         """What somebody has open in a folder, or deeper."""
@@ -138,8 +145,11 @@ class Namespace:
             os.close(descriptor)
             raise FileNotFoundError(errno.ENOENT, "another file has the name by now")
         node.descriptor, node.is_writable = descriptor, is_writable
-        node.number = 0 if node.is_folder else self._numbers.take(node.identity)
+        node.number = self._numbers_for(node).take(node.identity)
         self._held[node.path] = node
+
+    def _numbers_for(self, node: Node) -> FileNumbers:
+        return self._numbers_of_folders if node.is_folder else self._numbers
 
     def release(self, node: Node) -> None:
         node.users -= 1
@@ -147,8 +157,7 @@ class Namespace:
             return
         os.close(node.file)
         node.descriptor = None
-        if not node.is_folder:
-            self._numbers.give_back(node.identity, node.is_gone)
+        self._numbers_for(node).give_back(node.identity, node.is_gone)
         if self._held.get(node.path) is node:
             del self._held[node.path]
 

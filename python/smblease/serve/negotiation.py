@@ -20,7 +20,7 @@ if TYPE_CHECKING:
 
 ANY_DIALECT = 0x02FF
 SIGNING_ENABLED, SIGNING_REQUIRED = 1, 2
-LEASING, LARGE_MTU, ENCRYPTION = 2, 4, 0x40
+LEASING, LARGE_MTU, DIRECTORY_LEASING, ENCRYPTION = 2, 4, 0x20, 0x40
 # Where an answer's token is.
 BUFFER = HEADER + 64
 SALT = 32
@@ -67,10 +67,11 @@ def mode_of(server: Server) -> int:
 
 
 def capabilities_of(dialect: int, asked: int = 0) -> int:
-    """Encryption has a capability at 3.0 and 3.0.2 alone, where the client has it."""
+    """Leases of folders have one at those of 3, and encryption at 3.0 and 3.0.2 alone, where the client has it."""
     if dialect == Dialect.SMB_2_0_2:
         return 0
-    return LEASING | LARGE_MTU | (asked & ENCRYPTION if dialect in (Dialect.SMB_3_0, Dialect.SMB_3_0_2) else 0)
+    of_3 = DIRECTORY_LEASING if dialect >= Dialect.SMB_3_0 else 0
+    return LEASING | LARGE_MTU | of_3 | (asked & ENCRYPTION if dialect in (Dialect.SMB_3_0, Dialect.SMB_3_0_2) else 0)
 
 
 def agreed(server: Server, asked: Asked, dialect: Dialect, chosen: Chosen) -> Terms:

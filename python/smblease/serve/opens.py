@@ -1,12 +1,13 @@
 """Opens, as the shell has them, and the manager's clients that they belong to."""
 from __future__ import annotations
 
+import struct
 from asyncio import TimerHandle
 from dataclasses import dataclass, field
 from typing import TYPE_CHECKING
 from uuid import UUID
 
-from smblease import Access, LeaseState, Share
+from smblease import Access, Context, LeaseState, Share, find_context
 from smblease.serve.node import Node
 
 if TYPE_CHECKING:
@@ -15,6 +16,9 @@ if TYPE_CHECKING:
 
 NO_LEVEL, LEVEL_II, EXCLUSIVE, BATCH, LEASE = 0, 1, 8, 9, 0xFF
 OPLOCKS = (LEVEL_II, EXCLUSIVE, BATCH)
+# A lease as an answer has it (2.2.14.2.11): its length in version 2, and where its flags and its epoch are; the epoch of a break.
+LEASE_CONTEXT, SECOND_LENGTH, FLAGS, EPOCH, NEW_EPOCH = b"RqLs", 52, slice(20, 24), slice(48, 50), slice(2, 4)
+BREAKING = 2
 # The shell's own FileIds are far from the manager's, which begin at 1.
 OWN_FILE_IDS = 1 << 62
 
@@ -49,6 +53,16 @@ class Open:  # pylint: disable=too-many-instance-attributes  # it has the state 
         self.is_lent = self.hides_reading = self.is_breaking = False
         # until when it is kept without a connection
         self.timer: TimerHandle | None = None
+        # of DH2Q: its CreateGuid, the milliseconds that it is kept, the application that it is of, and its client
+        self.create_guid: bytes | None = None
+        self.timeout = 0
+        self.app_instance: bytes | None = None
+        self.client_guid: bytes | None = None
+        # what its create did
+        self.action = 0
+        # the key of the folder's lease, as its client says; whether it has changed what a list of the folder shows
+        self.parent_key: UUID | None = None
+        self.has_written = False
         # of a folder: the names that are still to be listed
         self.listing: list[str] | None = None
 
@@ -84,10 +98,28 @@ class LeaseSeen:
     broken_by: int | None = None
     broken_to: LeaseState = LeaseState.NONE
     timer: TimerHandle | None = None
+    # the data of RqLs as they were answered last, and of version 2 with the epoch that its client was sent since
+    _context: bytes = b""
 
     def become(self, state: LeaseState) -> None:
         self.state = state
         self.node.opens.lease_changed(self)
+
+    def answered(self, contexts: bytes) -> None:
+        """Its client was sent these."""
+        found = find_context(contexts, LEASE_CONTEXT)
+        self._context = found.data if found else b""
+
+    def told(self, notification: bytes) -> None:
+        """Its client was sent this break (2.2.23.2)."""
+        if len(self._context) == SECOND_LENGTH:
+            self._context = self._context[:EPOCH.start] + notification[NEW_EPOCH] + self._context[EPOCH.stop:]
+
+    @property
+    def context(self) -> Context:
+        """The lease as it is, for an answer."""
+        flags = self._context[FLAGS.start] & ~BREAKING | (0 if self.broken_by is None else BREAKING)
+        return Context(LEASE_CONTEXT, self.key.bytes + struct.pack("<LL", self.state.value, flags) + self._context[FLAGS.stop:])
 
 
 @dataclass(eq=False)

@@ -18,6 +18,7 @@ def resizing(record: Record, opened: Open, size: int, fits: bool = True) -> Step
 
     def change() -> None:
         before = node.stat.st_size
+        opened.has_written = True
         os.ftruncate(node.file, size)
         node.shown.changed(node.identity)
         if is_longer and size > before:

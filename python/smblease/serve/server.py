@@ -15,6 +15,7 @@ from smblease.serve.chains import Pending
 from smblease.serve.commands import Commands
 from smblease.serve.connection import Connection
 from smblease.serve.faults_on_demand import Faults
+from smblease.serve.folder_leases import FolderLeases
 from smblease.serve.forced_breaks import ForcedBreaks
 from smblease.serve.kept_opens import KeptOpens
 from smblease.serve.leases import Leases
@@ -45,7 +46,7 @@ class Server:  # pylint: disable=too-many-instance-attributes  # its parts find 
     def __init__(self, settings: Settings, loop: asyncio.AbstractEventLoop, record: Record, names: Namespace) -> None:
         self.settings, self.loop, self.record, self.names = settings, loop, record, names
         self.guid = settings.chance.take(16)
-        self.host = ManagerHost(settings.rules, self)
+        self.host = ManagerHost(settings.rules, self, settings.dialects.has_3)
         self.clients = ManagerClients(settings.chance)
         self.opens: dict[int, Open] = {}
         self.kept = KeptOpens(self)
@@ -61,7 +62,7 @@ class Server:  # pylint: disable=too-many-instance-attributes  # its parts find 
         self.tree_ids, self.async_ids, self.own_file_ids = (itertools.count(it + 1) for it in (0, 0, OWN_FILE_IDS))
         self.leases = Leases(self)
         self.looking = Looking(self)
-        self.forced_breaks = ForcedBreaks(self)
+        self.forced_breaks, self.folder_leases = ForcedBreaks(self), FolderLeases(self)
         self.commands = Commands(self)
 
     # What the manager decides
@@ -74,11 +75,11 @@ class Server:  # pylint: disable=too-many-instance-attributes  # its parts find 
             if self.record.is_kept:
                 self.record.sent(client)
 
-    def broken(self, decision: Breaks) -> None:
-        client = self.clients.numbered(decision.client)
+    def broken(self, decision: Breaks, message: bytes | None) -> None:
+        client, notification = self.clients.numbered(decision.client), decision.notification
         if client and client.is_connected:
             self.sent(decision.client)
-            self.leases.broken(client, decision.notification)
+            self.leases.broken(client, notification, notification.write() if message is None else message)
 
     def ended(self, file_id: int) -> None:
         opened = self.opens.get(file_id)
@@ -191,7 +192,7 @@ class Server:  # pylint: disable=too-many-instance-attributes  # its parts find 
 
     def _cut(self, client: ManagerClient) -> None:
         self.record.dropped(client)
-        self.host.call(lambda manager: manager.cut(client.number))
+        self.host.cut(client.number)
 
     def _part(self, client: ManagerClient, opens: list[Open], tasks: Sequence[Task]) -> None:
         """A session or a connection of a client goes, with these opens and what waits of these tasks. The client may stay."""
@@ -225,7 +226,7 @@ class Server:  # pylint: disable=too-many-instance-attributes  # its parts find 
         """The manager remembers what expired of a client until it joins."""
         if client.has_expired:
             self.host.call(lambda manager: manager.join(client.number))
-            self.host.call(lambda manager: manager.cut(client.number))
+            self.host.cut(client.number)
         self.clients.free(client)
 
     # What becomes of opens
@@ -259,9 +260,9 @@ class Server:  # pylint: disable=too-many-instance-attributes  # its parts find 
             if opened.file_id in self.opens:
                 yield from self.close_open(opened)
 
-    def forget_open(self, opened: Open) -> None:
+    def forget_open(self, opened: Open, is_told: bool = False) -> None:
         """An open is gone. With the last one of a file goes its name, where it is to be deleted; a folder stays with what is in
-        it."""
+        it. `is_told`: who caches the folder is sent a break by now."""
         if self.opens.pop(opened.file_id, None) is None:
             return
         node = opened.node
@@ -271,8 +272,11 @@ class Server:  # pylint: disable=too-many-instance-attributes  # its parts find 
         if node.pauses:
             self.host.resume(node.pauses)
         node.is_deleting = (node.is_deleting or opened.deletes) and not (node.is_folder and self.names.has_below(node))
+        goes = node.is_deleting and not node.opens and not node.is_gone
+        if (goes or opened.has_written) and not is_told:
+            self.folder_leases.ending(opened)
         self._lease_gone(opened)
-        if node.is_deleting and not node.opens and not node.is_gone:
+        if goes:
             self._remove(node)
         self.names.release(node)
 

@@ -47,6 +47,7 @@ class SetInfo(Handlers):
         if len(data) < LEAST[number]:
             raise StatusError(Status.INFO_LENGTH_MISMATCH)
         if number == BASIC:
+            yield from self._server.folder_leases.changing(request, opened, opened.node.path)
             self._set_basic(opened, data)
         elif number == RENAME:
             yield from self._rename(request, opened, data)
@@ -87,6 +88,7 @@ class SetInfo(Handlers):
         self._check_new_name(node, path, bool(data[0]))
         yield from self._break_below(request, node)
         yield from self._break_handles(request, opened)
+        yield from self._server.folder_leases.changing(request, opened, node.path, path)
         if self._server.names.opened_below(node):
             raise StatusError(Status.ACCESS_DENIED)
         self._server.names.rename(node, path, self._check_new_name(node, path, bool(data[0])))
@@ -156,7 +158,7 @@ class SetInfo(Handlers):
     def _resize(self, request: Request, opened: Open, size: int, is_end: bool) -> Steps:
         """An allocation of less than there is cuts the file off too; any has all others cache nothing (MS-FSA 2.1.5.14.1)."""
         node, limit = opened.node, self._server.settings.limit
-        if opened.client is None or not writes(opened.access):
+        if opened.client is None or node.is_folder or not writes(opened.access):
             raise StatusError(Status.ACCESS_DENIED)
         if size > limit:
             raise StatusError(Status.INVALID_PARAMETER)

@@ -40,7 +40,9 @@ class Transfers(Handlers):
             nonlocal attributes
             if flags:
                 attributes = attributes_of(node.shown_stat(), node.kept, node.allocated)
-            self._server.forget_open(opened)
+            self._server.forget_open(opened, is_told=True)
+        if self._server.folder_leases.has_any:
+            yield from self._server.folder_leases.closing(request, opened)
         if opened.client:
             if opened.key:
                 self._server.leases.believes_nothing(opened)
@@ -104,6 +106,7 @@ class Transfers(Handlers):
             if opened.level == LEVEL_II:
                 leases.break_own_level_ii(opened)
             if data:
+                opened.has_written = True
                 write_bytes(node.file, offset, data)
                 if node.shown is not ON_DISK:
                     node.shown.changed(node.identity)
