@@ -41,6 +41,7 @@ class TreeClient(ABC):
 
     def __init__(self, place: Place) -> None:
         self.place = place
+        self.login = f"{place.user}%{place.password}"
 
     @abstractmethod
     def put(self, tree: Path, path: str) -> None:
@@ -72,7 +73,7 @@ def run(words: Sequence[str], folder: Path | None = None, **more: str) -> str:
 class Smbclient(TreeClient):
     def _do(self, commands: str) -> None:
         place = self.place
-        run(["smbclient", f"//{place.host}/{place.share}", "-p", str(place.port), "-U", "guest%", "-m", "SMB2_10", "-c",
+        run(["smbclient", f"//{place.host}/{place.share}", "-p", str(place.port), "-U", self.login, "-c",
              f"prompt off; recurse on; {commands}"])
 
     def put(self, tree: Path, path: str) -> None:
@@ -93,13 +94,15 @@ class Smbget(Smbclient):
 
     def get(self, path: str, folder: Path) -> None:
         place = self.place
-        run(["smbget", "-q", "-R", "-U", "guest%", f"smb://{place.host}:{place.port}/{place.share}/{path}"], folder)
+        run(["smbget", "-q", "-R", "-U", self.login, f"smb://{place.host}:{place.port}/{place.share}/{path}"], folder)
 
 
 class Rclone(TreeClient):
     def _do(self, *words: str) -> None:
-        run(["rclone", *words], None, RCLONE_CONFIG="/dev/null", RCLONE_SMB_HOST=self.place.host,
-            RCLONE_SMB_PORT=str(self.place.port), RCLONE_SMB_USER="guest")
+        place = self.place
+        password = run(["rclone", "obscure", place.password]).strip() if place.password else ""
+        run(["rclone", *words], None, RCLONE_CONFIG="/dev/null", RCLONE_SMB_HOST=place.host, RCLONE_SMB_PORT=str(place.port),
+            RCLONE_SMB_USER=place.user, RCLONE_SMB_PASS=password)
 
     def _at(self, path: str) -> str:
         return f":smb:{self.place.share}/{path}"
@@ -210,7 +213,7 @@ class Impacket(Walker):
         super().__init__(place)
         from impacket.smbconnection import SMBConnection  # pylint: disable=import-outside-toplevel
         self._smb: Any = SMBConnection(place.host, place.host, sess_port=place.port)
-        self._smb.login("guest", "")
+        self._smb.login(place.user, place.password)
 
     def close(self) -> None:
         self._smb.close()
@@ -245,7 +248,8 @@ class Smbc(Walker):
 
     def __init__(self, place: Place) -> None:
         super().__init__(place)
-        self._smbc: Any = importlib.import_module("smbc").Context(auth_fn=lambda *_: ("", "guest", ""))
+        self._smbc: Any = importlib.import_module("smbc").Context(
+            auth_fn=lambda *_: ("", place.user, place.password))
         self._root = f"smb://{place.host}:{place.port}/{place.share}"
 
     def make_folder(self, path: str) -> None:
