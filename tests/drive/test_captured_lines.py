@@ -117,10 +117,10 @@ def test_epochs(side: str, program: str) -> None:
     """smbd sends the breaks of a chain with one epoch, of which nothing is said; one that is older doesn't follow on (3.3.4.7)."""
     name = "smbtorture_v2_leases"
     rows = shown(name, "smb2.cmd == 18 && smb2.lease.lease_oplock == 0x13", ["frame.number", "frame.time_relative"])
-    assert len(rows) == 3
+    [_, _, [number, time]] = rows
     said = [[line.partition(": ")[2] for line in judged(program, lines, side).said if ", epoch " in line]
             for lines in (of_kept(name, []), chain_with_an_older_epoch())]
-    assert said == [[], ["packet {} at {}, epoch 17 follows 19".format(*rows[2])]]
+    assert said == [[], [f"packet {number} at {time}, epoch 17 follows 19"]]
 
 
 def kind_of(line: str) -> str:

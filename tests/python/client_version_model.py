@@ -1,5 +1,5 @@
-"""What a client adds for leases of version 2, once more and plainly, by MS-SMB2 3.2.5.7.5 and 3.2.5.19.2: of each lease the newest
-epoch and state, and of each durable open its CreateGuid. What comes and goes are values, not bytes."""
+"""What a client adds for leases of version 2, once more and plainly, by MS-SMB2 3.2.5.7.5 and 3.2.5.19.2: of each lease the
+newest epoch and state, and of each durable open its CreateGuid. What comes and goes are values, not bytes."""
 from __future__ import annotations
 
 from dataclasses import dataclass, field

@@ -9,9 +9,9 @@ from typing import Any
 
 import pytest
 
-from smblease import (Access, AcknowledgeDone, AcknowledgeFailed, AcknowledgeRequest, Acknowledgment, Break, Client, ClientVersions,
-                      Closed, Context, CreateAnswer, CreateAsk, CreateRequest, Extent, Fault, LeaseState, Manager, Notification,
-                      Quiet, ReadRequest, Response, Rules, Server, Share, Status, Versions, WriteDone, WriteRequest,
+from smblease import (Access, AcknowledgeDone, AcknowledgeFailed, AcknowledgeRequest, Acknowledgment, Break, Client,
+                      ClientVersions, Closed, Context, CreateAnswer, CreateAsk, CreateRequest, Extent, Fault, LeaseState, Manager,
+                      Notification, Quiet, ReadRequest, Response, Rules, Server, Share, Status, Versions, WriteDone, WriteRequest,
                       append_context, each_context)
 
 GUID = uuid.UUID(int=1)
