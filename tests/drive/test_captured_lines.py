@@ -114,7 +114,7 @@ def chain_with_an_older_epoch() -> str:
 
 @SIDES
 def test_epochs(side: str, program: str) -> None:
-    """smbd sends the breaks of a chain with one epoch, of which nothing is said; one that is older doesn't follow on (3.3.4.7)."""
+    """smbd sends the breaks of a chain with one epoch, of which nothing is said; an older one doesn't follow on (3.3.4.7)."""
     name = "smbtorture_v2_leases"
     rows = shown(name, "smb2.cmd == 18 && smb2.lease.lease_oplock == 0x13", ["frame.number", "frame.time_relative"])
     [_, _, [number, time]] = rows
