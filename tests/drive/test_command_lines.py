@@ -31,7 +31,7 @@ REFUSED = [
     (["run", MISSING, "--smbd", "--dialect", "2.0.2"], 2, "drive/run: --dialect is 2.1 or more"),
     (["run", MISSING, "--smbd", "--dialect", "3"], 2, "drive/run: --dialect is one of 2.0.2, 2.1"),
     (["run", MISSING, "--smbd", "--dialect", "SMB2_10", "--encrypt"], 2, "drive/run: --encrypt goes with --dialect 3.0"),
-    (["run", MISSING, "--served", "--encrypt"], 2, "drive/run: --encrypt goes with --dialect 3.0"),
+    (["run", MISSING, "--served", "--dialect", "2.1", "--encrypt"], 2, "drive/run: --encrypt goes with --dialect 3.0"),
     (["compare", REFUSALS, "--record", MISSING, "--dialect", "2.1"], 2, "drive/compare: --record"),
     (["compare", REFUSALS, "--record", MISSING, "--encrypt"], 2, "drive/compare: --record"),
     (["run", "--smbd", __file__], 1, "drive/run: fault line 1"),

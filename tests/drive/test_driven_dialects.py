@@ -46,9 +46,7 @@ def same(had: object) -> None:
 @pytest.mark.parametrize("words", [[], ["--encrypt"]], ids=["guest", "encrypted"])
 @pytest.mark.parametrize("dialect", NAMES[1:])
 def test_served_at_dialects_of_3(dialect: str, words: list[str]) -> None:
-    """It is driven to its end, with its leases or without."""
-    had = ran("run", ["--served", "--dialect", dialect, *words, ANSWERED])
-    assert had.status in (0, 4) and had.out.splitlines()[-1] in ("# safe", "# nothing tried") and not had.faults, had
+    same(ran("run", ["--served", "--dialect", dialect, *words, ANSWERED]))
 
 
 def test_served_at_the_dialect_that_is_named() -> None:
