@@ -10,7 +10,7 @@ from typing import Tuple
 from smblease.drive.headers import Command, Message
 from tests.serve.requests import Body
 
-ENCRYPTION = 0x40
+DIRECTORY_LEASING, ENCRYPTION = 0x20, 0x40
 PREAUTH, ENCRYPTIONS, SIGNINGS = 1, 2, 8
 SALT = b"s" * 32
 Context = Tuple[int, bytes]
@@ -59,7 +59,7 @@ class Asking:
 
     dialects: Tuple[int, ...] = (0x0311,)
     contexts: Tuple[Context, ...] = (preauth(1),)
-    capabilities: int = ENCRYPTION
+    capabilities: int = DIRECTORY_LEASING | ENCRYPTION
     mode: int = 1
     guid: bytes = b"g" * 16
 

@@ -46,9 +46,10 @@ def test_each_dialect(every: ServerProcess, modern: Modern, dialect: int) -> Non
         assert [kind for kind, _ in contexts_of(answer)] == ([PREAUTH] if dialect == SMB3_11 else [])
 
 
-def test_encryption_that_a_client_has_not(every: ServerProcess, modern: Modern) -> None:
+def test_what_a_client_has_not(every: ServerProcess, modern: Modern) -> None:
+    """Neither leases of folders nor encryption."""
     answer = modern(every, Asking((SMB3_00,), capabilities=0)).negotiate()
-    assert agreed(answer)[2] == LEASING | LARGE_MTU | DIRECTORY_LEASING
+    assert agreed(answer)[2] == LEASING | LARGE_MTU
 
 
 @pytest.mark.parametrize("words, dialects, expected", [

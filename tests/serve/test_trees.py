@@ -37,12 +37,12 @@ def test_a_tree(start: Start, tmp_path: Path, chooser: random.Random, kind: type
     goes_there_and_back(kind, place, tmp_path, chooser, size)
 
 
-@pytest.mark.parametrize("kind", [it for it in CLIENTS if it.id not in ("gio", "impacket")])
+@pytest.mark.parametrize("kind", [it for it in CLIENTS if it.id != "gio"])
 @pytest.mark.parametrize("words", [[], ["--encrypt"]], ids=["signed", "encrypted"])
 @needs.package("cryptography")
 def test_a_tree_at_the_dialect_that_a_client_begins_with(start: Start, tmp_path: Path, chooser: random.Random,
                                                          kind: type[trees.TreeClient], words: list[str]) -> None:
-    """That is 3.1.1. (Of impacket test_clients_of_3 has dialects; gio comes as a guest.)"""
+    """That is 3.1.1, and 3.0 of impacket. (gio comes as a guest.)"""
     share = tmp_path / "share"
     share.mkdir()
     place = replace(start("--folder", str(share), "--writable", *EVERY, *words).place, user=USER, password=PASSWORD)

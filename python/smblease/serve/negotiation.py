@@ -67,11 +67,12 @@ def mode_of(server: Server) -> int:
 
 
 def capabilities_of(dialect: int, asked: int = 0) -> int:
-    """Leases of folders have one at those of 3, and encryption at 3.0 and 3.0.2 alone, where the client has it."""
+    """Of what a client says that it has: leases of folders at dialects of 3, and encryption at 3.0 and 3.0.2 alone (3.3.5.4)."""
     if dialect == Dialect.SMB_2_0_2:
         return 0
     of_3 = DIRECTORY_LEASING if dialect >= Dialect.SMB_3_0 else 0
-    return LEASING | LARGE_MTU | of_3 | (asked & ENCRYPTION if dialect in (Dialect.SMB_3_0, Dialect.SMB_3_0_2) else 0)
+    by_flag = ENCRYPTION if dialect in (Dialect.SMB_3_0, Dialect.SMB_3_0_2) else 0
+    return LEASING | LARGE_MTU | asked & (of_3 | by_flag)
 
 
 def agreed(server: Server, asked: Asked, dialect: Dialect, chosen: Chosen) -> Terms:
