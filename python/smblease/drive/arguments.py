@@ -43,8 +43,8 @@ def server_arguments(parser: argparse.ArgumentParser) -> None:
                         help="the same in lines `username = ..`, `password = ..` and `domain = ..`, as smbclient has it")
     parser.add_argument("--kerberos", action="store_true", help="a ticket says who asks, of the cache that KRB5CCNAME names")
     parser.add_argument("--dialect", metavar="DIALECT",
-                        help=f"the one that is spoken: {', '.join(map(dialect_name, DRIVEN))}. Without this word it is 3.1.1, and "
-                             "with --server the greatest that it has; 3.0 and more need cryptography")
+                        help=f"the one that is spoken: {', '.join(map(dialect_name, DRIVEN))}. Without this word it is 3.1.1, "
+                             "and with --server the greatest that it has; 3.0 and more need cryptography")
     parser.add_argument("--encrypt", action="store_true",
                         help="encrypt all messages, which goes with dialects of 3, also where neither server nor share wants it")
     parser.add_argument("--break-time", metavar="SECONDS", type=float,
